@@ -1,0 +1,77 @@
+-- The state of a symbol memory, and what a call answers and leaves.
+use mathlib.Core.Bool.{Bool, true, false, cond}
+use mathlib.Core.List.{List, [], _∷_}
+use Prim.Native.Nat.{ℕ}
+use lib.Dec.{eqb, ltb}
+use Rattle.std.specs.declared.option.Option.{Option}
+use Rattle.std.specs.declared.option.Option.the-variants.{Some, None}
+use Rattle.std.specs.declared.result.Result.{Result}
+use Rattle.std.specs.declared.result.Result.the-variants.{Ok, Err}
+use Rattle.cells.specs.Memory.{Cells, at}
+use Rattle.bags.specs.Holding.{Hold}
+use Rattle.rules.specs.declared.Status.{Status}
+use Rattle.rules.specs.declared.Collector.{Collector}
+use Rattle.rules.specs.declared.Work.{Work}
+use Rattle.rules.specs.declared.Refusal.{Refusal}
+use Rattle.rules.specs.declared.Refusal.the-variants.{NoTask, WorkUnfinished}
+
+pub record Task : Type 0 where
+  pub status : Status
+  pub registers : ℕ → Option ℕ
+  -- the last added first
+  pub pool : List ℕ
+  pub work : Option Work
+
+pub record State : Type 0 where
+  pub cells : Cells
+  -- how many links a cell has
+  pub links : ℕ
+  pub free : Hold
+  pub cache : Hold
+  -- how many directory cells there are; none before the set up
+  pub directory : ℕ
+  pub tasks : ℕ → Option Task
+  pub collector : Collector
+
+-- what a call answers and leaves
+pub record Outcome : Type 0 where
+  pub answer : Result ℕ Refusal
+  pub after : State
+
+abbrev pub accepted : ℕ → State → Outcome
+accepted k s = record { answer = Ok k; after = s }
+
+abbrev pub refused : Refusal → State → Outcome
+refused e s = record { answer = Err e; after = s }
+
+-- where the test fails the call is refused, and nothing changes
+abbrev pub check : Bool → Refusal → State → Outcome → Outcome
+check passed e s outcome = cond passed outcome (refused e s)
+
+abbrev pub withTask : State → ℕ → Option Task → State
+withTask s m t = record { cells = s .cells; links = s .links; free = s .free; cache = s .cache; directory = s .directory; tasks = at m t (s .tasks); collector = s .collector }
+
+abbrev pub withFree : State → Hold → State
+withFree s h = record { cells = s .cells; links = s .links; free = h; cache = s .cache; directory = s .directory; tasks = s .tasks; collector = s .collector }
+
+abbrev pub withRegister : Task → ℕ → Option ℕ → Task
+withRegister t b v = record { status = t .status; registers = at b v (t .registers); pool = t .pool; work = t .work }
+
+abbrev pub withPool : Task → List ℕ → Task
+withPool t xs = record { status = t .status; registers = t .registers; pool = xs; work = t .work }
+
+-- there are eight slots, and none before the set up
+abbrev pub hasSlot : State → ℕ → Bool
+hasSlot s m = cond (eqb (s .directory) 0) false (ltb m 8)
+
+abbrev pub isRegister : ℕ → Bool
+isRegister a = ltb a 8
+
+abbrev pub isIdle : Option Work → Bool
+isIdle None = true
+isIdle (Some w) = false
+
+-- for a call that asks for a task without unfinished work
+abbrev pub byIdleTask : State → Option Task → (Task → Outcome) → Outcome
+byIdleTask s None go = refused NoTask s
+byIdleTask s (Some t) go = check (isIdle (t .work)) WorkUnfinished s (go t)

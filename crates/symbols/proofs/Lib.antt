@@ -1,0 +1,5 @@
+pub mod PoolLaws
+pub mod Idle
+pub mod Loans
+pub mod Drawing
+pub mod Returning

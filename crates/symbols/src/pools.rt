@@ -1,0 +1,70 @@
+// Cells that go between the free list and the tasks' pools.
+ghost use mathlib.Core.Path.{_≡_};
+ghost use Prim.Native.Nat.{_<_};
+ghost use Rattle.rules.specs.Pools.{reserve, giveBack};
+ghost use Rattle.symbols.specs.Moves.{drawing, returning};
+ghost use Rattle.symbols.specs.Views.{stateOf, Becomes, Does};
+use super::parts::Symbols;
+use bags::Bag;
+use cells::CellMemory;
+use rules::Refusal;
+
+impl<'a, 'b, 'c, M: CellMemory, F: Bag, C: Bag> Symbols<'a, 'b, 'c, M, F, C> {
+    // Cells go from the free list to the pool of task m until the pool has four or the list is empty; the answer is how many.
+    pub fn reserve(&mut self, m: usize) -> Result<u16, Refusal>
+        ensures { λ r. ⌜ Does M·CellMemory F·Bag C·Bag (reserve m) (now (self .entry)) (now (self .exit)) r ⌝ }
+    {
+        if !self.has_slot(m) {
+            return Err(Refusal::NoSuchSlot);
+        }
+        let task = self.tasks.idle(m)?;
+        let held = task.pool.len();
+        if held >= 4 {
+            return Err(Refusal::PoolFull);
+        }
+        let free = self.free.count();
+        if free == 0 {
+            return Err(Refusal::FreeListEmpty);
+        }
+        let wanted = (4 - held).min(free);
+        for _k in 0..wanted {
+            self.draw(m);
+        }
+        Ok(wanted as u16)
+    }
+
+    // The free list's choice goes to the pool of task m.
+    fn draw(&mut self, m: usize)
+        requires { ⌜ m < 8 ⌝ }
+        ensures { λ _. ⌜ Becomes M·CellMemory F·Bag C·Bag (drawing m (stateOf M·CellMemory F·Bag C·Bag (now (self .entry)))) (now (self .entry)) (now (self .exit)) ⌝ }
+    {
+        if let Ok(x) = self.free.take() {
+            self.tasks.add(m, x);
+        }
+    }
+
+    // The whole pool of task m returns to the free list, the last added first; the answer is its size.
+    pub fn give_back(&mut self, m: usize) -> Result<u16, Refusal>
+        ensures { λ r. ⌜ Does M·CellMemory F·Bag C·Bag (giveBack m) (now (self .entry)) (now (self .exit)) r ⌝ }
+    {
+        if !self.has_slot(m) {
+            return Err(Refusal::NoSuchSlot);
+        }
+        let task = self.tasks.idle(m)?;
+        let held = task.pool.len();
+        for _k in 0..held {
+            self.return_one(m);
+        }
+        Ok(held as u16)
+    }
+
+    // The last added cell of the pool of task m goes to the free list.
+    fn return_one(&mut self, m: usize)
+        requires { ⌜ m < 8 ⌝ }
+        ensures { λ _. ⌜ Becomes M·CellMemory F·Bag C·Bag (returning m (stateOf M·CellMemory F·Bag C·Bag (now (self .entry)))) (now (self .entry)) (now (self .exit)) ⌝ }
+    {
+        if let Some(x) = self.tasks.take(m) {
+            let _ = self.free.put(x);
+        }
+    }
+}

@@ -19,6 +19,10 @@ use Rattle.rules.specs.State.{State, Outcome, accepted, check}
 abbrev pub resting : Collector
 resting = record { status = Async; phase = Async; swept = Past; scanned = Before; dirty = false; stage = Rest; next = 0; looked = false; hand = None }
 
+-- before the set up there are no slots
+abbrev pub notSetUp : Cells → ℕ → Hold → Hold → State
+notSetUp m L free cache = record { cells = m; links = L; free = free; cache = cache; directory = 0; tasks = λ m. None; collector = resting }
+
 -- of n cells the first d White, the others Blue; all links empty
 abbrev pub blank : ℕ → ℕ → Cells
 blank n d = record { size = n; colour = λ c. cond (leb d c && ltb c n) Blue White; link = λ c i. None }

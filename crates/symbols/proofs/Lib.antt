@@ -3,3 +3,5 @@ pub mod Idle
 pub mod Loans
 pub mod Drawing
 pub mod Returning
+pub mod Emptying
+pub mod LayingOut

@@ -1,3 +1,4 @@
 pub mod Parts
 pub mod Views
 pub mod Moves
+pub mod Laying

@@ -18,6 +18,7 @@ use rules::Status;
 
 mod parts;
 mod pools;
+mod set_up;
 mod tasks;
 
 pub use parts::Symbols;

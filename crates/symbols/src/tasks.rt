@@ -78,6 +78,13 @@ impl Task {
 }
 
 impl Tasks {
+    // All slots vacant.
+    pub fn new() -> Tasks
+        ensures { λ r. ⌜ tasksOf r ≡ (λ _. None) ⌝ }
+    {
+        Tasks { slots: [None; 8] }
+    }
+
     // What stands in slot m.
     pub fn get(&self, m: usize) -> Option<Task>
         requires { ⌜ m < 8 ⌝ }

@@ -1,1 +1,4 @@
+pub mod Codes
 pub mod Memory
+pub mod Rows
+pub mod Stretch

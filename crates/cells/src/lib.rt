@@ -3,6 +3,16 @@ ghost use mathlib.Core.Path.{_≡_};
 ghost use Prim.Native.Nat.{ℕ, _≤_};
 ghost use Rattle.cells.specs.Memory.{Cells, Sound, colourAt, linkAt, colourTaken, linkTaken, coloured, linked};
 
+mod board;
+mod bytes;
+mod codes;
+
+pub use board::Board;
+pub use board::BoardMemory;
+pub use board::CellRecord;
+pub use bytes::Bytes;
+pub use bytes::BytesMemory;
+
 #[derive(Clone, Copy, PartialEq, Eq, Debug)]
 pub enum Colour {
     Blue,

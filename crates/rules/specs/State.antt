@@ -13,7 +13,7 @@ use Rattle.rules.specs.declared.Status.{Status}
 use Rattle.rules.specs.declared.Collector.{Collector}
 use Rattle.rules.specs.declared.Work.{Work}
 use Rattle.rules.specs.declared.Refusal.{Refusal}
-use Rattle.rules.specs.declared.Refusal.the-variants.{NoTask, WorkUnfinished}
+use Rattle.rules.specs.declared.Refusal.the-variants.{NoSuchRegister, NoTask, WorkUnfinished}
 
 pub record Task : Type 0 where
   pub status : Status
@@ -75,3 +75,7 @@ isIdle (Some w) = false
 abbrev pub byIdleTask : State → Option Task → (Task → Outcome) → Outcome
 byIdleTask s None go = refused NoTask s
 byIdleTask s (Some t) go = check (isIdle (t .work)) WorkUnfinished s (go t)
+
+-- a register by its number, or 4
+abbrev pub registerChecked : ℕ → Result (Unit {0}) Refusal
+registerChecked a = cond (isRegister a) (Ok tt) (Err NoSuchRegister)

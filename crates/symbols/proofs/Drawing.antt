@@ -14,7 +14,7 @@ use Rattle.bags.specs.Holding.{Hold, Fair, holding, hasMember}
 use Rattle.rules.specs.State.{Task, State, accepted, hasSlot, isIdle, withPool}
 use Rattle.rules.specs.Pools.{left, drawn, reserving, reservable, reserve, reserveFor}
 use Rattle.rules.proofs.States.{at-here, at-again, task-as-it-was, by-idle-task}
-use Rattle.symbols.specs.Parts.{grown, withGrown}
+use Rattle.tasks.specs.Parts.{grown, withGrown}
 use Rattle.symbols.specs.Moves.{drawing}
 
 left-manner : (k : ℕ) (h : Hold) → left k h .manner ≡ h .manner

@@ -15,7 +15,7 @@ use Rattle.bags.specs.Holding.{Hold, putInto}
 use Rattle.rules.specs.State.{Task, State, accepted, hasSlot, isIdle, withPool, withTask, withFree}
 use Rattle.rules.specs.Pools.{puts, giveBack, giveBackOf}
 use Rattle.rules.proofs.States.{at-here, at-again, task-as-it-was, by-idle-task}
-use Rattle.symbols.specs.Parts.{newestIn, withOlder}
+use Rattle.tasks.specs.Parts.{newestIn, withOlder}
 use Rattle.symbols.specs.Moves.{putBack, returning}
 
 puts-push : (h : Hold) (xs : List ℕ) (x : ℕ) → puts h (xs ++ x ∷ []) ≡ putInto (puts h xs) x

@@ -1,4 +1,3 @@
-pub mod Parts
 pub mod Views
 pub mod Moves
 pub mod Laying

@@ -5,7 +5,7 @@ use Rattle.std.specs.declared.option.Option.{Option}
 use Rattle.std.specs.declared.option.Option.the-variants.{Some, None}
 use Rattle.bags.specs.Holding.{Hold, hasMember, putInto, takenFrom}
 use Rattle.rules.specs.State.{State, withTask, withFree}
-use Rattle.symbols.specs.Parts.{withGrown, newestIn, withOlder}
+use Rattle.tasks.specs.Parts.{withGrown, newestIn, withOlder}
 
 -- the free list's choice goes to the pool of task m
 abbrev pub drawing : ℕ → State → State

@@ -8,7 +8,7 @@ use Rattle.bags.specs.declared.Bag.{Ghosts as BagGhosts}
 use Rattle.rules.specs.declared.Refusal.{Refusal}
 use Rattle.rules.specs.State.{State, Outcome}
 use Rattle.symbols.specs.declared.parts.Symbols.{Symbols}
-use Rattle.symbols.specs.Parts.{tasksOf}
+use Rattle.tasks.specs.Parts.{tasksOf}
 
 module _ {M F C : Type 0} (m : MemoryGhosts M) (f : BagGhosts F) (c : BagGhosts C) where
   abbrev pub stateOf : Symbols M F C → State

@@ -5,7 +5,6 @@ ghost use Rattle.rules.specs.SettingUp.{fitBags, notSetUp, resting, setUp};
 ghost use Rattle.symbols.specs.Laying.{emptied, emptyingLink, laying, withCells};
 ghost use Rattle.symbols.specs.Views.{stateOf, Becomes, Does};
 use super::parts::Symbols;
-use super::parts::Tasks;
 use bags::Bag;
 use cells::CellMemory;
 use cells::Colour;
@@ -15,6 +14,7 @@ use rules::Scanned;
 use rules::Stage;
 use rules::Status;
 use rules::Swept;
+use tasks::Tasks;
 
 // The collector as it begins.
 fn at_rest() -> Collector

@@ -7,11 +7,11 @@ use lib.ListN.{length, getD}
 use Rattle.std.specs.declared.option.Option.the-variants.{Some, None}
 use Rattle.rules.specs.State.{State, hasSlot, accepted}
 use Rattle.rules.specs.Pools.{reserving, reservable}
-use Rattle.symbols.specs.declared.parts.Task.{Task as TaskPart}
-use Rattle.symbols.specs.Parts.{taskOf, slotOf}
+use Rattle.tasks.specs.declared.parts.Task.{Task as TaskPart}
+use Rattle.tasks.specs.Parts.{taskOf, slotOf}
 use Rattle.symbols.specs.Moves.{drawing}
 use Rattle.symbols.specs.Views.{stateOf}
-use Rattle.symbols.proofs.Idle.{idle-is}
+use Rattle.tasks.proofs.Idle.{idle-is}
 use Rattle.symbols.proofs.Loans.{same-refl, same-then}
 use Rattle.symbols.proofs.Drawing.{none-drawn, one-drawn, reserves}
 use Rattle.symbols.proofs.parts.Symbols.reserve.Needs as need

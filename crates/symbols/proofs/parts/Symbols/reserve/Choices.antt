@@ -2,8 +2,8 @@ use mathlib.Core.Path.{_≡_}
 use lib.ListN.{getD}
 use Rattle.std.specs.declared.option.Option.the-variants.{Some, None}
 use Rattle.rules.specs.Pools.{reserving}
-use Rattle.symbols.specs.declared.parts.Task.{Task as TaskPart}
-use Rattle.symbols.specs.Parts.{taskOf}
+use Rattle.tasks.specs.declared.parts.Task.{Task as TaskPart}
+use Rattle.tasks.specs.Parts.{taskOf}
 use Rattle.symbols.specs.Views.{stateOf, Becomes}
 use Rattle.symbols.proofs.parts.Symbols.reserve.Given as given
 

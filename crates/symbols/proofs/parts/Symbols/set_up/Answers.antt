@@ -4,7 +4,7 @@ use native.Mathlib.Omega.{arith}
 use mathlib.Core.Bool.{true}
 use Rattle.rules.specs.State.{State, accepted}
 use Rattle.rules.specs.SettingUp.{fitBags}
-use Rattle.symbols.specs.Parts.{tasksOf}
+use Rattle.tasks.specs.Parts.{tasksOf}
 use Rattle.symbols.specs.Laying.{laying, laidTo}
 use Rattle.symbols.specs.Views.{stateOf}
 use Rattle.symbols.proofs.LayingOut.{one-laid, laid-begun, set-up-accepted}

@@ -1,15 +1,16 @@
 -- A state with another task in a slot, read and written again.
 use mathlib.Core.Path.{_≡_, refl, sym, ap, fun-ext, _∙_}
 use mathlib.Core.Logic.{⊎-elim}
-use mathlib.Core.Bool.{true, cond}
+use mathlib.Core.Bool.{cond}
 use Prim.Native.Nat.{ℕ}
 use lib.Dec.{eqb}
 use Rattle.std.proofs.shelf.Tests.{cases-eq, cond-true, cond-false, eq-eqb, ne-eqb}
 use Rattle.std.specs.declared.option.Option.{Option}
-use Rattle.std.specs.declared.option.Option.the-variants.{Some}
+use Rattle.std.specs.declared.result.Result.{Result}
+use Rattle.std.specs.declared.result.Result.the-variants.{Ok, Err}
 use Rattle.cells.specs.Memory.{at}
-use Rattle.rules.specs.declared.Refusal.the-variants.{NoSuchSlot, WorkUnfinished}
-use Rattle.rules.specs.State.{Task, State, Outcome, check, withTask, hasSlot, isIdle, byIdleTask}
+use Rattle.rules.specs.declared.Refusal.{Refusal}
+use Rattle.rules.specs.State.{Task, State, Outcome, refused, by, withTask}
 
 pub at-here : {A : Type 0} (i : ℕ) (x : A) (f : ℕ → A) → at i x f i ≡ x
 at-here i x f = cond-true (eqb i i) x (f i) (eq-eqb i i refl)
@@ -35,8 +36,9 @@ task-again s m t u = ap (with s) (at-again m t u (s .tasks))
 pub task-as-it-was : (s : State) (m : ℕ) (t : Option Task) → s .tasks m ≡ t → withTask s m t ≡ s
 task-as-it-was s m t e = ap (with s) (at-as-it-was m t (s .tasks) e)
 
--- past the checks of the slot and the task
-pub by-idle-task : (s : State) (m : ℕ) (t : Task) (go : Task → Outcome) → hasSlot s m ≡ true → s .tasks m ≡ Some t → isIdle (t .work) ≡ true
-    → check (hasSlot s m) NoSuchSlot s (byIdleTask s (s .tasks m) go) ≡ go t
-by-idle-task s m t go slot present idle =
-    cond-true (hasSlot s m) _ _ slot ∙ ap (λ o. byIdleTask s o go) present ∙ cond-true (isIdle (t .work)) _ _ idle
+-- a call whose checks passed, and one whose checks failed
+pub passed : {A : Type 0} (s : State) (checks : Result A Refusal) (done : A → Outcome) (x : A) → Ok x ≡ checks → done x ≡ by s checks done
+passed s checks done x e = ap (λ c. by s c done) e
+
+pub failed : {A : Type 0} (s : State) (checks : Result A Refusal) (done : A → Outcome) (e : Refusal) → Err e ≡ checks → refused e s ≡ by s checks done
+failed s checks done e f = ap (λ c. by s c done) f

@@ -1,46 +1,65 @@
--- Cells that go between the free list and a task's pool.
-use mathlib.Core.Bool.{Bool, cond}
+-- Cells that go between the free list and a task's pool. Each call has its checks, in the order of their numbers, and what it does.
 use mathlib.Core.List.{List, [], _∷_}
 use Prim.Native.Nat.{ℕ, zero, suc, _-_, min}
 use lib.Dec.{ltb}
 use lib.ListN.{length}
 use Rattle.std.specs.declared.option.Option.{Option}
-use Rattle.std.specs.declared.option.Option.the-variants.{Some}
+use Rattle.std.specs.declared.option.Option.the-variants.{Some, None}
+use Rattle.std.specs.declared.result.Result.{Result}
+use Rattle.std.specs.declared.result.Result.the-variants.{Ok}
 use Rattle.bags.specs.Holding.{Hold, hasMember, putInto, takenFrom}
+use Rattle.rules.specs.declared.Refusal.{Refusal}
 use Rattle.rules.specs.declared.Refusal.the-variants.{NoSuchSlot, PoolFull, FreeListEmpty}
-use Rattle.rules.specs.State.{Task, State, Outcome, accepted, check, withTask, withFree, withPool, hasSlot, byIdleTask}
+use Rattle.rules.specs.State.{Task, State, Outcome, accepted, need, by, withTask, withFree, withPool, hasSlot, ofIdleTask}
 
 -- how many cells a reserve takes: until the pool has four or the free list is empty
 abbrev pub reservable : State → Task → ℕ
 reservable s t = min (4 - length (t .pool)) (length (s .free .members))
 
--- the free list once k members were taken, and the pool that they were added to, as the free list chose them
+-- how many cells are to go to the pool
+abbrev pub reserveChecks : ℕ → State → Result ℕ Refusal
+reserveChecks m s =
+    need (hasSlot s m) NoSuchSlot (ofIdleTask (s .tasks m) (λ t.
+    need (ltb (length (t .pool)) 4) PoolFull (need (hasMember (s .free)) FreeListEmpty (Ok (reservable s t)))))
+
+-- the free list once k members were taken
 abbrev pub left : ℕ → Hold → Hold
 left zero h = h
 left (suc k) h = takenFrom (left k h)
 
+-- the pool that they were added to, each as the free list chose it
 abbrev pub drawn : ℕ → Hold → List ℕ → List ℕ
 drawn zero h pool = pool
 drawn (suc k) h pool = left k h .manner .choice (left k h .members) ∷ drawn k h pool
 
-abbrev pub reserving : State → ℕ → Task → ℕ → State
-reserving s m t k = withFree (withTask s m (Some (withPool t (drawn k (s .free) (t .pool))))) (left k (s .free))
+abbrev pub withDrawn : ℕ → Hold → Option Task → Option Task
+withDrawn k h None = None
+withDrawn k h (Some t) = Some (withPool t (drawn k h (t .pool)))
 
-abbrev pub reserveFor : State → ℕ → Task → Outcome
-reserveFor s m t =
-    check (ltb (length (t .pool)) 4) PoolFull s (check (hasMember (s .free)) FreeListEmpty s
-    (accepted (reservable s t) (reserving s m t (reservable s t))))
+-- k cells go from the free list to the pool of task m
+abbrev pub reserving : State → ℕ → ℕ → State
+reserving s m k = withFree (withTask s m (withDrawn k (s .free) (s .tasks m))) (left k (s .free))
 
 abbrev pub reserve : ℕ → State → Outcome
-reserve m s = check (hasSlot s m) NoSuchSlot s (byIdleTask s (s .tasks m) (reserveFor s m))
+reserve m s = by s (reserveChecks m s) (λ k. accepted k (reserving s m k))
+
+-- how many cells are in the pool
+abbrev pub giveBackChecks : ℕ → State → Result ℕ Refusal
+giveBackChecks m s = need (hasSlot s m) NoSuchSlot (ofIdleTask (s .tasks m) (λ t. Ok (length (t .pool))))
 
 -- the free list once the numbers were put, one after the other
 abbrev pub puts : Hold → List ℕ → Hold
 puts h [] = h
 puts h (x ∷ xs) = puts (putInto h x) xs
 
-abbrev pub giveBackOf : State → ℕ → Task → Outcome
-giveBackOf s m t = accepted (length (t .pool)) (withFree (withTask s m (Some (withPool t []))) (puts (s .free) (t .pool)))
+abbrev pub poolIn : Option Task → List ℕ
+poolIn None = []
+poolIn (Some t) = t .pool
+
+abbrev pub withPoolOf : List ℕ → Option Task → Option Task
+withPoolOf xs None = None
+withPoolOf xs (Some t) = Some (withPool t xs)
 
 abbrev pub giveBack : ℕ → State → Outcome
-giveBack m s = check (hasSlot s m) NoSuchSlot s (byIdleTask s (s .tasks m) (giveBackOf s m))
+giveBack m s =
+    by s (giveBackChecks m s) (λ k. accepted k (withFree (withTask s m (withPoolOf [] (s .tasks m))) (puts (s .free) (poolIn (s .tasks m)))))

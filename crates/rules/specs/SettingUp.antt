@@ -5,6 +5,8 @@ use lib.Dec.{eqb, ltb, leb}
 use lib.ListN.{length}
 use Rattle.std.specs.declared.option.Option.{Option}
 use Rattle.std.specs.declared.option.Option.the-variants.{Some, None}
+use Rattle.std.specs.declared.result.Result.{Result}
+use Rattle.std.specs.declared.result.Result.the-variants.{Ok}
 use Rattle.cells.specs.declared.Colour.the-variants.{Blue, White}
 use Rattle.cells.specs.Memory.{Cells}
 use Rattle.bags.specs.Holding.{Hold, hasMember, putInto}
@@ -13,8 +15,9 @@ use Rattle.rules.specs.declared.Stage.the-variants.{Rest}
 use Rattle.rules.specs.declared.Swept.the-variants.{Past}
 use Rattle.rules.specs.declared.Scanned.the-variants.{Before}
 use Rattle.rules.specs.declared.Collector.{Collector}
+use Rattle.rules.specs.declared.Refusal.{Refusal}
 use Rattle.rules.specs.declared.Refusal.the-variants.{MemorySize, DirectorySize, UnfitBags}
-use Rattle.rules.specs.State.{State, Outcome, accepted, check}
+use Rattle.rules.specs.State.{State, Outcome, accepted, need, by}
 
 abbrev pub resting : Collector
 resting = record { status = Async; phase = Async; swept = Past; scanned = Before; dirty = false; stage = Rest; next = 0; looked = false; hand = None }
@@ -47,7 +50,10 @@ begun s d = record {
 abbrev pub fitBags : State → ℕ → Bool
 fitBags s d = leb (s .cells .size - d) (s .free .room) && (ltb 0 (s .cache .room) && (not (hasMember (s .free)) && not (hasMember (s .cache))))
 
+abbrev pub setUpChecks : ℕ → State → Result (Unit {0}) Refusal
+setUpChecks d s =
+    need (ltb 0 (s .cells .size) && leb (s .cells .size) 4096) MemorySize
+    (need (ltb 0 d && (leb d 64 && leb d (s .cells .size))) DirectorySize (need (fitBags s d) UnfitBags (Ok tt)))
+
 abbrev pub setUp : ℕ → State → Outcome
-setUp d s =
-    check (ltb 0 (s .cells .size) && leb (s .cells .size) 4096) MemorySize s
-    (check (ltb 0 d && (leb d 64 && leb d (s .cells .size))) DirectorySize s (check (fitBags s d) UnfitBags s (accepted 0 (begun s d))))
+setUp d s = by s (setUpChecks d s) (λ _. accepted 0 (begun s d))

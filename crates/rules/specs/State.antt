@@ -13,7 +13,7 @@ use Rattle.rules.specs.declared.Status.{Status}
 use Rattle.rules.specs.declared.Collector.{Collector}
 use Rattle.rules.specs.declared.Work.{Work}
 use Rattle.rules.specs.declared.Refusal.{Refusal}
-use Rattle.rules.specs.declared.Refusal.the-variants.{NoSuchRegister, NoTask, WorkUnfinished}
+use Rattle.rules.specs.declared.Refusal.the-variants.{NoTask, WorkUnfinished}
 
 pub record Task : Type 0 where
   pub status : Status
@@ -44,9 +44,14 @@ accepted k s = record { answer = Ok k; after = s }
 abbrev pub refused : Refusal → State → Outcome
 refused e s = record { answer = Err e; after = s }
 
--- where the test fails the call is refused, and nothing changes
-abbrev pub check : Bool → Refusal → State → Outcome → Outcome
-check passed e s outcome = cond passed outcome (refused e s)
+-- a check: where the test fails the call is refused
+abbrev pub need : {A : Type 0} → Bool → Refusal → Result A Refusal → Result A Refusal
+need passed e next = cond passed next (Err e)
+
+-- a call by its checks: refused, and nothing changed, or done with what the checks found
+abbrev pub by : {A : Type 0} → State → Result A Refusal → (A → Outcome) → Outcome
+by s (Ok x) done = done x
+by s (Err e) done = refused e s
 
 abbrev pub withTask : State → ℕ → Option Task → State
 withTask s m t = record { cells = s .cells; links = s .links; free = s .free; cache = s .cache; directory = s .directory; tasks = at m t (s .tasks); collector = s .collector }
@@ -71,11 +76,7 @@ abbrev pub isIdle : Option Work → Bool
 isIdle None = true
 isIdle (Some w) = false
 
--- for a call that asks for a task without unfinished work
-abbrev pub byIdleTask : State → Option Task → (Task → Outcome) → Outcome
-byIdleTask s None go = refused NoTask s
-byIdleTask s (Some t) go = check (isIdle (t .work)) WorkUnfinished s (go t)
-
--- a register by its number, or 4
-abbrev pub registerChecked : ℕ → Result (Unit {0}) Refusal
-registerChecked a = cond (isRegister a) (Ok tt) (Err NoSuchRegister)
+-- 11 and 13: a task, and no unfinished work of it; what is looked for in that task
+abbrev pub ofIdleTask : {A : Type 0} → Option Task → (Task → Result A Refusal) → Result A Refusal
+ofIdleTask None next = Err NoTask
+ofIdleTask (Some t) next = need (isIdle (t .work)) WorkUnfinished (next t)

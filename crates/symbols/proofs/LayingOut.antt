@@ -1,11 +1,10 @@
 -- Cells laid out one after the other, from none to all.
 use mathlib.Core.Path.{_≡_, refl, sym, ap, ap₂, fun-ext, _∙_}
-use mathlib.Core.Logic.{⊎-elim, inl, inr}
-use mathlib.Core.Bool.{true, false, cond, _&&_}
+use mathlib.Core.Logic.{⊎-elim, inl}
+use mathlib.Core.Bool.{cond}
 use Prim.Native.Nat.{ℕ, suc, _+_, _-_, _<_, _≤_}
 use native.Mathlib.Omega.{arith}
-use native.Mathlib.Numerals.{add-one}
-use lib.Dec.{eqb, ltb, leb}
+use lib.Dec.{eqb, ltb}
 use Rattle.std.proofs.shelf.Ways.{tells}
 use Rattle.std.proofs.shelf.Tests.{cases-eq, cases-lt, cond-true, cond-false, eq-eqb, ne-eqb, lt-ltb, le-ltb}
 use Rattle.std.specs.declared.option.Option.{Option}
@@ -15,8 +14,8 @@ use Rattle.cells.specs.declared.Colour.the-variants.{Blue, White}
 use Rattle.cells.specs.Memory.{Cells, Sound, at}
 use Rattle.bags.specs.Holding.{Hold, putInto}
 use Rattle.rules.specs.declared.Collector.{Collector}
-use Rattle.rules.specs.State.{Task, State, accepted, withFree}
-use Rattle.rules.specs.SettingUp.{blank, rising, begun, resting, fitBags, setUp}
+use Rattle.rules.specs.State.{Task, State, withFree}
+use Rattle.rules.specs.SettingUp.{blank, rising, begun, resting}
 use Rattle.symbols.specs.Laying.{withCells, firstColour, laying, laidTo}
 
 abbrev laid : State → (ℕ → Colour) → (ℕ → ℕ → Option ℕ) → Hold → State
@@ -84,9 +83,3 @@ laid-begun s t d x ts co sound state end none rest =
     ap (λ u. withRest u d ts co) (state ∙ ap (laidTo s d) end) ∙ ap₂ (withRest (laidTo s d (s .cells .size)) d) none rest
     ∙ ap (λ (m : Cells). record { cells = m; links = s .links; free = rising (s .free) d (s .cells .size - d); cache = s .cache; directory = d; tasks = λ m. None; collector = resting })
     (all-laid (s .links) (s .cells) sound d)
-
-pub set-up-accepted : (s : State) (d : ℕ) → 0 < s .cells .size → s .cells .size ≤ 4096 → 0 < d → d ≤ 64 → d ≤ s .cells .size → fitBags s d ≡ true → accepted 0 (begun s d) ≡ setUp d s
-set-up-accepted s d some few first most within fit =
-    let size : ltb 0 (s .cells .size) && leb (s .cells .size) 4096 ≡ true = grind (arith, tells) in
-    let directory : ltb 0 d && (leb d 64 && leb d (s .cells .size)) ≡ true = grind (arith, tells) in
-    sym (cond-true _ _ _ size ∙ cond-true _ _ _ directory ∙ cond-true (fitBags s d) _ _ fit)

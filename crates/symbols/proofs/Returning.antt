@@ -1,20 +1,18 @@
 -- Cells that go from a pool back to the free list, one after the other.
-use mathlib.Core.Path.{_≡_, refl, sym, ap, ap₂, subst, _∙_}
-use mathlib.Core.Bool.{true}
+use mathlib.Core.Path.{_≡_, refl, sym, ap, ap₂, _∙_}
 use mathlib.Core.List.{List, [], _∷_, _++_}
-use Prim.Native.Nat.{ℕ, zero, suc, _+_, _-_, _<_, _≤_}
+use Prim.Native.Nat.{ℕ, _+_, _<_}
 use native.Mathlib.Omega.{arith}
 use native.Mathlib.Numerals.{add-one}
 use lib.ListN.{length, take, drop, getD}
 use lib.Seq.{drop-cons}
 use Rattle.std.proofs.shelf.Lists.{take-more, take-all, drop-all}
 use Rattle.std.specs.declared.option.Option.{Option}
-use Rattle.std.specs.declared.option.Option.the-variants.{Some}
-use Rattle.cells.specs.Memory.{at}
+use Rattle.std.specs.declared.option.Option.the-variants.{Some, None}
 use Rattle.bags.specs.Holding.{Hold, putInto}
-use Rattle.rules.specs.State.{Task, State, accepted, hasSlot, isIdle, withPool, withTask, withFree}
-use Rattle.rules.specs.Pools.{puts, giveBack, giveBackOf}
-use Rattle.rules.proofs.States.{at-here, at-again, task-as-it-was, by-idle-task}
+use Rattle.rules.specs.State.{Task, State, withTask, withFree}
+use Rattle.rules.specs.Pools.{puts, poolIn, withPoolOf}
+use Rattle.rules.proofs.States.{at-here, at-again, task-as-it-was}
 use Rattle.tasks.specs.Parts.{newestIn, withOlder}
 use Rattle.symbols.specs.Moves.{putBack, returning}
 
@@ -22,28 +20,43 @@ puts-push : (h : Hold) (xs : List ℕ) (x : ℕ) → puts h (xs ++ x ∷ []) ≡
 puts-push h [] x = refl
 puts-push h (y ∷ ys) x = puts-push (putInto h y) ys x
 
-module _ (s : State) (m : ℕ) (t : Task) where
+own-pool : (o : Option Task) → withPoolOf (poolIn o) o ≡ o
+own-pool None = refl
+own-pool (Some t) = refl
+
+-- a task whose pool is x and then xs gives x and keeps xs
+newest-of : (o : Option Task) (x : ℕ) (xs ys : List ℕ) → 0 < length ys → ys ≡ poolIn o → newestIn (withPoolOf (x ∷ xs) o) ≡ Some x
+newest-of None x xs ys some e = absurd (omega (arith, ap length e))
+newest-of (Some t) x xs ys some e = refl
+
+older-of : (o : Option Task) (x : ℕ) (xs : List ℕ) → withOlder (withPoolOf (x ∷ xs) o) ≡ withPoolOf xs o
+older-of None x xs = refl
+older-of (Some t) x xs = refl
+
+module _ (s : State) (m : ℕ) where
   -- k cells went back
   abbrev pub returned : ℕ → State
-  returned k = withFree (withTask s m (Some (withPool t (drop k (t .pool))))) (puts (s .free) (take k (t .pool)))
+  returned k = withFree (withTask s m (withPoolOf (drop k (poolIn (s .tasks m))) (s .tasks m))) (puts (s .free) (take k (poolIn (s .tasks m))))
 
-  pub none-returned : s .tasks m ≡ Some t → s ≡ returned 0
-  none-returned present = sym (task-as-it-was s m (Some t) present)
+  pub none-returned : s ≡ returned 0
+  none-returned = sym (task-as-it-was s m (withPoolOf (poolIn (s .tasks m)) (s .tasks m)) (sym (own-pool (s .tasks m))))
 
-  pub one-returned : (k : ℕ) → k < length (t .pool) → returning m (returned k) ≡ returned (k + 1)
+  pub one-returned : (k : ℕ) → k < length (poolIn (s .tasks m)) → returning m (returned k) ≡ returned (k + 1)
   one-returned k some =
-      let x = getD (t .pool) k 0 in
-      let rest = drop (k + 1) (t .pool) in
-      let pool : drop k (t .pool) ≡ x ∷ rest = rw (add-one, drop-cons (t .pool) k 0) in
-      let free : putInto (puts (s .free) (take k (t .pool))) x ≡ puts (s .free) (take (k + 1) (t .pool)) =
-          sym (ap (puts (s .free)) (take-more (t .pool) k 0 some) ∙ puts-push (s .free) (take k (t .pool)) x) in
-      let slot : returned k .tasks m ≡ Some (withPool t (x ∷ rest)) = at-here m _ (s .tasks) ∙ ap (λ p. Some (withPool t p)) pool in
-      ap (λ (o : Option Task). putBack (withTask (returned k) m (withOlder o)) (newestIn o)) slot
+      let o = s .tasks m in
+      let all = poolIn o in
+      let x = getD all k 0 in
+      let rest = drop (k + 1) all in
+      let pool : drop k all ≡ x ∷ rest = rw (add-one, drop-cons all k 0) in
+      let free : putInto (puts (s .free) (take k all)) x ≡ puts (s .free) (take (k + 1) all) =
+          sym (ap (puts (s .free)) (take-more all k 0 some) ∙ puts-push (s .free) (take k all) x) in
+      let slot : returned k .tasks m ≡ withPoolOf (x ∷ rest) o = at-here m _ (s .tasks) ∙ ap (λ p. withPoolOf p o) pool in
+      ap (λ (q : Option Task). putBack (withTask (returned k) m (withOlder q)) (newestIn q)) slot
+      ∙ ap₂ (λ q y. putBack (withTask (returned k) m q) y) (older-of o x rest) (newest-of o x rest all (omega arith) refl)
       ∙ ap₂ (λ ts h. record { cells = s .cells; links = s .links; free = h; cache = s .cache; directory = s .directory; tasks = ts; collector = s .collector })
-      (at-again m (Some (withPool t (drop k (t .pool)))) (Some (withPool t rest)) (s .tasks)) free
+      (at-again m (withPoolOf (drop k all) o) (withPoolOf rest o) (s .tasks)) free
 
-  pub gives-back : hasSlot s m ≡ true → s .tasks m ≡ Some t → isIdle (t .work) ≡ true → accepted (length (t .pool)) (returned (length (t .pool))) ≡ giveBack m s
-  gives-back slot present idle =
-      ap₂ (λ p xs. accepted (length (t .pool)) (withFree (withTask s m (Some (withPool t p))) (puts (s .free) xs)))
-      (drop-all (length (t .pool)) (t .pool) (omega arith)) (take-all (length (t .pool)) (t .pool) (omega arith))
-      ∙ sym (by-idle-task s m t (giveBackOf s m) slot present idle)
+  pub all-returned : returned (length (poolIn (s .tasks m))) ≡ withFree (withTask s m (withPoolOf [] (s .tasks m))) (puts (s .free) (poolIn (s .tasks m)))
+  all-returned =
+      let all = poolIn (s .tasks m) in
+      ap₂ (λ p xs. withFree (withTask s m (withPoolOf p (s .tasks m))) (puts (s .free) xs)) (drop-all (length all) all (omega arith)) (take-all (length all) all (omega arith))

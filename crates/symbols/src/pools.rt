@@ -1,7 +1,8 @@
 // Cells that go between the free list and the tasks' pools.
 ghost use mathlib.Core.Path.{_≡_};
-ghost use Prim.Native.Nat.{_<_};
-ghost use Rattle.rules.specs.Pools.{reserve, giveBack};
+ghost use Prim.Native.Nat.{_<_, _≤_};
+ghost use Rattle.std.specs.Vec.{made};
+ghost use Rattle.rules.specs.Pools.{giveBack, giveBackChecks, reserve, reserveChecks};
 ghost use Rattle.symbols.specs.Moves.{drawing, returning};
 ghost use Rattle.symbols.specs.Views.{stateOf, Becomes, Does};
 use super::parts::Symbols;
@@ -13,6 +14,18 @@ impl<'a, 'b, 'c, M: CellMemory, F: Bag, C: Bag> Symbols<'a, 'b, 'c, M, F, C> {
     // Cells go from the free list to the pool of task m until the pool has four or the list is empty; the answer is how many.
     pub fn reserve(&mut self, m: usize) -> Result<u16, Refusal>
         ensures { λ r. ⌜ Does M·CellMemory F·Bag C·Bag (reserve m) (now (self .entry)) (now (self .exit)) r ⌝ }
+    {
+        let wanted = self.check_reserve(m)?;
+        for _k in 0..wanted {
+            self.draw(m);
+        }
+        Ok(wanted as u16)
+    }
+
+    // How many cells are to go to the pool.
+    fn check_reserve(&self, m: usize) -> Result<usize, Refusal>
+        ensures checks { λ r. ⌜ r ≡ reserveChecks m (stateOf M·CellMemory F·Bag C·Bag (now (self .entry))) ⌝ }
+        ensures few { λ r. ⌜ made r (λ k. k ≤ 4) ⌝ }
     {
         if !self.has_slot(m) {
             return Err(Refusal::NoSuchSlot);
@@ -26,11 +39,7 @@ impl<'a, 'b, 'c, M: CellMemory, F: Bag, C: Bag> Symbols<'a, 'b, 'c, M, F, C> {
         if free == 0 {
             return Err(Refusal::FreeListEmpty);
         }
-        let wanted = (4 - held).min(free);
-        for _k in 0..wanted {
-            self.draw(m);
-        }
-        Ok(wanted as u16)
+        Ok((4 - held).min(free))
     }
 
     // The free list's choice goes to the pool of task m.
@@ -47,15 +56,23 @@ impl<'a, 'b, 'c, M: CellMemory, F: Bag, C: Bag> Symbols<'a, 'b, 'c, M, F, C> {
     pub fn give_back(&mut self, m: usize) -> Result<u16, Refusal>
         ensures { λ r. ⌜ Does M·CellMemory F·Bag C·Bag (giveBack m) (now (self .entry)) (now (self .exit)) r ⌝ }
     {
-        if !self.has_slot(m) {
-            return Err(Refusal::NoSuchSlot);
-        }
-        let task = self.tasks.idle(m)?;
-        let held = task.pool.len();
+        let held = self.check_give_back(m)?;
         for _k in 0..held {
             self.return_one(m);
         }
         Ok(held as u16)
+    }
+
+    // How many cells are in the pool.
+    fn check_give_back(&self, m: usize) -> Result<usize, Refusal>
+        ensures checks { λ r. ⌜ r ≡ giveBackChecks m (stateOf M·CellMemory F·Bag C·Bag (now (self .entry))) ⌝ }
+        ensures few { λ r. ⌜ made r (λ k. k ≤ 4) ⌝ }
+    {
+        if !self.has_slot(m) {
+            return Err(Refusal::NoSuchSlot);
+        }
+        let task = self.tasks.idle(m)?;
+        Ok(task.pool.len())
     }
 
     // The last added cell of the pool of task m goes to the free list.

@@ -5,7 +5,6 @@ ghost use Rattle.cells.specs.Memory.{colourAt, linkAt};
 ghost use Rattle.rules.specs.Questions.{statusTold, poolTold, registerTold};
 ghost use Rattle.symbols.specs.Views.{stateOf};
 use super::parts::Symbols;
-use super::registers::check_register;
 use bags::Bag;
 use cells::CellMemory;
 use cells::Colour;
@@ -22,7 +21,9 @@ impl<'a, 'b, 'c, M: CellMemory, F: Bag, C: Bag> Symbols<'a, 'b, 'c, M, F, C> {
         if !self.has_slot(m) {
             return Err(Refusal::NoSuchSlot);
         }
-        check_register(j)?;
+        if j >= 8 {
+            return Err(Refusal::NoSuchRegister);
+        }
         match self.tasks.get(m) {
             Some(task) => Ok(task.register(j)),
             None => Err(Refusal::NoTask),

@@ -1,7 +1,7 @@
 // A symbol memory over what a host lends, and its set up.
 ghost use denote.Ref.{name};
 ghost use mathlib.Core.Path.{_≡_};
-ghost use Rattle.rules.specs.SettingUp.{fitBags, notSetUp, resting, setUp};
+ghost use Rattle.rules.specs.SettingUp.{fitBags, notSetUp, resting, setUp, setUpChecks};
 ghost use Rattle.symbols.specs.Laying.{emptied, emptyingLink, laying, withCells};
 ghost use Rattle.symbols.specs.Views.{stateOf, Becomes, Does};
 use super::parts::Symbols;
@@ -58,6 +58,20 @@ impl<'a, 'b, 'c, M: CellMemory, F: Bag, C: Bag> Symbols<'a, 'b, 'c, M, F, C> {
     pub fn set_up(&mut self, d: u16) -> Result<u16, Refusal>
         ensures { λ r. ⌜ Does M·CellMemory F·Bag C·Bag (setUp d) (now (self .entry)) (now (self .exit)) r ⌝ }
     {
+        self.check_set_up(d)?;
+        let n = self.memory.count();
+        for x in 0..n {
+            self.lay(x, d);
+        }
+        self.directory = d;
+        self.tasks = Tasks::new();
+        self.collector = at_rest();
+        Ok(0)
+    }
+
+    fn check_set_up(&self, d: u16) -> Result<(), Refusal>
+        ensures { λ r. ⌜ r ≡ setUpChecks d (stateOf M·CellMemory F·Bag C·Bag (now (self .entry))) ⌝ }
+    {
         let n = self.memory.count();
         if n == 0 || n > 4096 {
             return Err(Refusal::MemorySize);
@@ -68,13 +82,7 @@ impl<'a, 'b, 'c, M: CellMemory, F: Bag, C: Bag> Symbols<'a, 'b, 'c, M, F, C> {
         if !self.bags_fit(d) {
             return Err(Refusal::UnfitBags);
         }
-        for x in 0..n {
-            self.lay(x, d);
-        }
-        self.directory = d;
-        self.tasks = Tasks::new();
-        self.collector = at_rest();
-        Ok(0)
+        Ok(())
     }
 
     // Whether the free list has a place for each cell beside d directory cells, the cache has one, and both are empty.

@@ -11,7 +11,7 @@ use mathlib.Core.Bool.{cond}
 use Rattle.bags.specs.Stacks.{stacked}
 use Rattle.rules.specs.declared.Refusal.{Refusal}
 use Rattle.rules.specs.declared.Refusal.the-variants.{NoTask, WorkUnfinished}
-use Rattle.rules.specs.State.{Task, withRegister, withPool, isIdle}
+use Rattle.rules.specs.State.{Task, withPool, isIdle}
 use Rattle.tasks.specs.declared.parts.Pool.{Pool}
 use Rattle.tasks.specs.declared.parts.Task.{Task as TaskPart}
 use Rattle.tasks.specs.declared.parts.Tasks.{Tasks}
@@ -28,10 +28,6 @@ slotOf (Some t) = Some (taskOf t)
 
 abbrev pub tasksOf : Tasks → ℕ → Option Task
 tasksOf ts m = slotOf (getD (ts .slots) m None)
-
-abbrev pub withHeld : Option Task → ℕ → Option ℕ → Option Task
-withHeld None b v = None
-withHeld (Some t) b v = Some (withRegister t b v)
 
 -- the task of a slot, where it has no unfinished work
 abbrev pub idleIn : Option TaskPart → Result TaskPart Refusal

@@ -6,8 +6,8 @@ ghost use lib.ListN.{getD, set, length};
 ghost use Rattle.std.specs.declared.option.Option.the-variants.{None};
 ghost use Rattle.bags.specs.Stacks.{stacked};
 ghost use Rattle.cells.specs.Memory.{at};
-ghost use Rattle.rules.specs.Tasks.{newTask};
-ghost use Rattle.tasks.specs.Parts.{taskOf, slotOf, tasksOf, withHeld, poolOf, idleIn, grown, newest, older, withGrown, newestIn, withOlder};
+ghost use Rattle.rules.specs.Tasks.{newTask, withHeld};
+ghost use Rattle.tasks.specs.Parts.{taskOf, slotOf, tasksOf, poolOf, idleIn, grown, newest, older, withGrown, newestIn, withOlder};
 use rules::Refusal;
 use rules::Status;
 

@@ -2,7 +2,8 @@ use mathlib.Core.Path.{_≡_, sym, ap, _∙_}
 use Prim.Native.Nat.{ℕ}
 use Rattle.std.specs.declared.option.Option.{Option}
 use Rattle.std.specs.declared.option.Option.the-variants.{Some}
-use Rattle.tasks.specs.Parts.{poolOf, slotOf, withHeld}
+use Rattle.rules.specs.Tasks.{withHeld}
+use Rattle.tasks.specs.Parts.{poolOf, slotOf}
 use Rattle.tasks.proofs.hold_in.Needs as need
 
 pub returns-in-Some : need.returns-in-Some

@@ -1,13 +1,12 @@
-use borrow.Author.Needs.{needs}
-use mathlib.Core.Path.{_≡_, refl, sym, ap, _∙_}
+use mathlib.Core.Path.{_≡_, ap, _∙_}
 use native.Mathlib.Omega.{arith}
-use mathlib.Core.Bool.{true}
 use Rattle.rules.specs.State.{State, accepted}
-use Rattle.rules.specs.SettingUp.{fitBags}
+use Rattle.rules.specs.SettingUp.{begun, setUpChecks}
+use Rattle.rules.proofs.States.{passed}
 use Rattle.tasks.specs.Parts.{tasksOf}
 use Rattle.symbols.specs.Laying.{laying, laidTo}
 use Rattle.symbols.specs.Views.{stateOf}
-use Rattle.symbols.proofs.LayingOut.{one-laid, laid-begun, set-up-accepted}
+use Rattle.symbols.proofs.LayingOut.{one-laid, laid-begun}
 use Rattle.symbols.proofs.Loans.{same-then}
 use Rattle.symbols.proofs.parts.Symbols.set_up.Needs as need
 
@@ -27,12 +26,11 @@ returns g c =
     let s = stateOf m (g .F·Bag) (g .C·Bag) (c .args .self .now) in
     let d = c .args .d in
     let all : c .loop-x .x ≡ s .cells .size = omega arith in
-    let fit : fitBags s d ≡ true = search needs in
     record {
       result =
           ap (accepted 0) (laid-begun s (stateOf m (g .F·Bag) (g .C·Bag) (c .loop-x .self)) d (c .loop-x .x) (tasksOf (c .new-self .result)) (c .at-rest-self .result)
           (m .sound (c .args .self .now .memory .now)) (c .loop-x .inv .state) all (c .new-self .ensures) (c .at-rest-self .ensures))
-          ∙ set-up-accepted s d (omega arith) (omega arith) (omega arith) (omega arith) (omega arith) fit;
+          ∙ passed s (setUpChecks d s) (λ _. accepted 0 (begun s d)) tt (c .in-Continue-check-set-up .ensures tt);
       lent = record {
         memory = c .loop-x .inv .lent .memory;
         free = c .loop-x .inv .lent .free;

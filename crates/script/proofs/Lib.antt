@@ -1,0 +1,5 @@
+pub mod Decimals
+mod Examples
+pub mod Numbers
+pub mod Places
+pub mod Runs

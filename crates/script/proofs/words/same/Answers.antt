@@ -1,0 +1,8 @@
+-- `==` on slices decides whether they hold the same bytes.
+use Rattle.std.proofs.shelf.Equals.{matches-decides, sameBytes-decides}
+use Rattle.std.proofs.shelf.Ways.{same-from-decides}
+use Rattle.script.proofs.words.same.Needs as need
+
+pub returns : need.returns
+returns c =
+    same-from-decides _ _ (matches-decides _ _ _ (c .eq .ensures)) (sameBytes-decides (c .args .word .now) (c .args .text .now))

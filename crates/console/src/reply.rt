@@ -20,7 +20,10 @@ fn by_number(answer: Result<u16, Refusal>) -> Result<u16, u16>
 }
 
 // The answer to a line, once what it asks for is done.
-pub fn answer<'a, 'b, 'c, M: CellMemory, F: Bag, C: Bag>(symbols: &mut Symbols<'a, 'b, 'c, M, F, C>, line: Result<Request, LineRefusal>) -> Result<u16, u16>
+pub fn answer<'a, 'b, 'c, M: CellMemory, F: Bag, C: Bag>(
+    symbols: &mut Symbols<'a, 'b, 'c, M, F, C>,
+    line: Result<Request, LineRefusal>,
+) -> Result<u16, u16>
     ensures { λ r. ⌜ Replies M·CellMemory F·Bag C·Bag line (now (symbols .entry)) (now (symbols .exit)) r ⌝ }
 {
     let request = match line {

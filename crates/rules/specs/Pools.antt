@@ -12,7 +12,7 @@ use Rattle.rules.specs.declared.Refusal.{Refusal}
 use Rattle.rules.specs.declared.Refusal.the-variants.{NoSuchSlot, PoolFull, FreeListEmpty}
 use Rattle.rules.specs.State.{Task, State, Outcome, accepted, need, by, withTask, withFree, withPool, hasSlot, ofIdleTask}
 
--- how many cells a reserve takes: until the pool has four or the free list is empty
+-- a reserve fills the pool up to four cells, as far as the free list goes
 abbrev pub reservable : State → Task → ℕ
 reservable s t = min (4 - length (t .pool)) (length (s .free .members))
 

@@ -25,29 +25,29 @@ one-coloured : (s : State) (d k : ℕ) → at k (firstColour d k) (laidTo s d k 
 one-coloured s d k = fun-ext (λ c. ⊎-elim
     (λ (e : c ≡ k). cond-true (eqb c k) _ _ (eq-eqb c k e) ∙ ap (firstColour d) (sym e) ∙ sym (cond-true (ltb c (k + 1)) _ _ (lt-ltb c (k + 1) (omega arith))))
     (λ (ne : c ≡ k → ⊥). cond-false (eqb c k) _ _ (ne-eqb c k ne) ∙ ⊎-elim
-      (λ (lt : c < k). cond-true (ltb c k) _ _ (lt-ltb c k lt) ∙ sym (cond-true (ltb c (k + 1)) _ _ (lt-ltb c (k + 1) (omega arith))))
-      (λ (ge : k ≤ c). cond-false (ltb c k) _ _ (le-ltb c k ge) ∙ sym (cond-false (ltb c (k + 1)) _ _ (le-ltb c (k + 1) (omega arith))))
-      (cases-lt c k))
+    (λ (lt : c < k). cond-true (ltb c k) _ _ (lt-ltb c k lt) ∙ sym (cond-true (ltb c (k + 1)) _ _ (lt-ltb c (k + 1) (omega arith))))
+    (λ (ge : k ≤ c). cond-false (ltb c k) _ _ (le-ltb c k ge) ∙ sym (cond-false (ltb c (k + 1)) _ _ (le-ltb c (k + 1) (omega arith))))
+    (cases-lt c k))
     (cases-eq c k))
 
 one-unlinked : (s : State) (d k : ℕ) → at k (λ i. None) (laidTo s d k .cells .link) ≡ laidTo s d (k + 1) .cells .link
 one-unlinked s d k = fun-ext (λ c. ⊎-elim
     (λ (e : c ≡ k). cond-true (eqb c k) _ _ (eq-eqb c k e) ∙ fun-ext (λ i. sym (cond-true (ltb c (k + 1)) _ _ (lt-ltb c (k + 1) (omega arith)))))
     (λ (ne : c ≡ k → ⊥). cond-false (eqb c k) _ _ (ne-eqb c k ne) ∙ fun-ext (λ i. ⊎-elim
-      (λ (lt : c < k). cond-true (ltb c k) _ _ (lt-ltb c k lt) ∙ sym (cond-true (ltb c (k + 1)) _ _ (lt-ltb c (k + 1) (omega arith))))
-      (λ (ge : k ≤ c). cond-false (ltb c k) _ _ (le-ltb c k ge) ∙ sym (cond-false (ltb c (k + 1)) _ _ (le-ltb c (k + 1) (omega arith))))
-      (cases-lt c k)))
+    (λ (lt : c < k). cond-true (ltb c k) _ _ (lt-ltb c k lt) ∙ sym (cond-true (ltb c (k + 1)) _ _ (lt-ltb c (k + 1) (omega arith))))
+    (λ (ge : k ≤ c). cond-false (ltb c k) _ _ (le-ltb c k ge) ∙ sym (cond-false (ltb c (k + 1)) _ _ (le-ltb c (k + 1) (omega arith))))
+    (cases-lt c k)))
     (cases-eq c k))
 
 one-put : (h : Hold) (d k : ℕ) → cond (ltb k d) (rising h d (k - d)) (putInto (rising h d (k - d)) k) ≡ rising h d (k + 1 - d)
 one-put h d k = ⊎-elim
     (λ (lt : k < d).
-      let none : k - d ≡ k + 1 - d = omega arith in
-      cond-true (ltb k d) _ _ (lt-ltb k d lt) ∙ ap (rising h d) none)
+    let none : k - d ≡ k + 1 - d = omega arith in
+    cond-true (ltb k d) _ _ (lt-ltb k d lt) ∙ ap (rising h d) none)
     (λ (ge : d ≤ k).
-      let here : k ≡ d + (k - d) = omega arith in
-      let more : suc (k - d) ≡ k + 1 - d = omega arith in
-      cond-false (ltb k d) _ _ (le-ltb k d ge) ∙ ap (putInto (rising h d (k - d))) here ∙ ap (rising h d) more)
+    let here : k ≡ d + (k - d) = omega arith in
+    let more : suc (k - d) ≡ k + 1 - d = omega arith in
+    cond-false (ltb k d) _ _ (le-ltb k d ge) ∙ ap (putInto (rising h d (k - d))) here ∙ ap (rising h d) more)
     (cases-lt k d)
 
 pub one-laid : (s : State) (d k : ℕ) → k < s .cells .size → laying (laidTo s d k) d k ≡ laidTo s d (k + 1)

@@ -49,7 +49,7 @@ module _ (s : State) (m : ℕ) where
       let rest = drop (k + 1) all in
       let pool : drop k all ≡ x ∷ rest = rw (add-one, drop-cons all k 0) in
       let free : putInto (puts (s .free) (take k all)) x ≡ puts (s .free) (take (k + 1) all) =
-          sym (ap (puts (s .free)) (take-more all k 0 some) ∙ puts-push (s .free) (take k all) x) in
+      sym (ap (puts (s .free)) (take-more all k 0 some) ∙ puts-push (s .free) (take k all) x) in
       let slot : returned k .tasks m ≡ withPoolOf (x ∷ rest) o = at-here m _ (s .tasks) ∙ ap (λ p. withPoolOf p o) pool in
       ap (λ (q : Option Task). putBack (withTask (returned k) m (withOlder q)) (newestIn q)) slot
       ∙ ap₂ (λ q y. putBack (withTask (returned k) m q) y) (older-of o x rest) (newest-of o x rest all (omega arith) refl)

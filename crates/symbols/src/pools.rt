@@ -11,7 +11,7 @@ use cells::CellMemory;
 use rules::Refusal;
 
 impl<'a, 'b, 'c, M: CellMemory, F: Bag, C: Bag> Symbols<'a, 'b, 'c, M, F, C> {
-    // Cells go from the free list to the pool of task m until the pool has four or the list is empty; the answer is how many.
+    // Fills the pool of task m up to four cells, as far as the free list goes; answers how many came.
     pub fn reserve(&mut self, m: usize) -> Result<u16, Refusal>
         ensures { λ r. ⌜ Does M·CellMemory F·Bag C·Bag (reserve m) (now (self .entry)) (now (self .exit)) r ⌝ }
     {
@@ -22,7 +22,7 @@ impl<'a, 'b, 'c, M: CellMemory, F: Bag, C: Bag> Symbols<'a, 'b, 'c, M, F, C> {
         Ok(wanted as u16)
     }
 
-    // How many cells are to go to the pool.
+    // How many cells to draw.
     fn check_reserve(&self, m: usize) -> Result<usize, Refusal>
         ensures checks { λ r. ⌜ r ≡ reserveChecks m (stateOf M·CellMemory F·Bag C·Bag (now (self .entry))) ⌝ }
         ensures few { λ r. ⌜ made r (λ k. k ≤ 4) ⌝ }
@@ -42,7 +42,7 @@ impl<'a, 'b, 'c, M: CellMemory, F: Bag, C: Bag> Symbols<'a, 'b, 'c, M, F, C> {
         Ok((4 - held).min(free))
     }
 
-    // The free list's choice goes to the pool of task m.
+    // One cell, as the free list chooses, into the pool of task m.
     fn draw(&mut self, m: usize)
         requires { ⌜ m < 8 ⌝ }
         ensures { λ _. ⌜ Becomes M·CellMemory F·Bag C·Bag (drawing m (stateOf M·CellMemory F·Bag C·Bag (now (self .entry)))) (now (self .entry)) (now (self .exit)) ⌝ }
@@ -52,7 +52,7 @@ impl<'a, 'b, 'c, M: CellMemory, F: Bag, C: Bag> Symbols<'a, 'b, 'c, M, F, C> {
         }
     }
 
-    // The whole pool of task m returns to the free list, the last added first; the answer is its size.
+    // Puts the cells of the pool of task m back into the free list, newest first; answers how many they were.
     pub fn give_back(&mut self, m: usize) -> Result<u16, Refusal>
         ensures { λ r. ⌜ Does M·CellMemory F·Bag C·Bag (giveBack m) (now (self .entry)) (now (self .exit)) r ⌝ }
     {
@@ -63,7 +63,7 @@ impl<'a, 'b, 'c, M: CellMemory, F: Bag, C: Bag> Symbols<'a, 'b, 'c, M, F, C> {
         Ok(held as u16)
     }
 
-    // How many cells are in the pool.
+    // How many cells to put back.
     fn check_give_back(&self, m: usize) -> Result<usize, Refusal>
         ensures checks { λ r. ⌜ r ≡ giveBackChecks m (stateOf M·CellMemory F·Bag C·Bag (now (self .entry))) ⌝ }
         ensures few { λ r. ⌜ made r (λ k. k ≤ 4) ⌝ }
@@ -75,7 +75,7 @@ impl<'a, 'b, 'c, M: CellMemory, F: Bag, C: Bag> Symbols<'a, 'b, 'c, M, F, C> {
         Ok(task.pool.len())
     }
 
-    // The last added cell of the pool of task m goes to the free list.
+    // The newest cell of the pool of task m, back into the free list.
     fn return_one(&mut self, m: usize)
         requires { ⌜ m < 8 ⌝ }
         ensures { λ _. ⌜ Becomes M·CellMemory F·Bag C·Bag (returning m (stateOf M·CellMemory F·Bag C·Bag (now (self .entry)))) (now (self .entry)) (now (self .exit)) ⌝ }

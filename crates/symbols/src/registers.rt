@@ -11,7 +11,7 @@ use rules::Refusal;
 use tasks::Task;
 
 impl<'a, 'b, 'c, M: CellMemory, F: Bag, C: Bag> Symbols<'a, 'b, 'c, M, F, C> {
-    // A task begins in slot p.
+    // Begins a task in slot p.
     pub fn enter(&mut self, p: usize) -> Result<u16, Refusal>
         ensures { λ r. ⌜ Does M·CellMemory F·Bag C·Bag (enter p) (now (self .entry)) (now (self .exit)) r ⌝ }
     {
@@ -32,7 +32,7 @@ impl<'a, 'b, 'c, M: CellMemory, F: Bag, C: Bag> Symbols<'a, 'b, 'c, M, F, C> {
         Ok(())
     }
 
-    // Task m ends.
+    // Ends task m.
     pub fn leave(&mut self, m: usize) -> Result<u16, Refusal>
         ensures { λ r. ⌜ Does M·CellMemory F·Bag C·Bag (leave m) (now (self .entry)) (now (self .exit)) r ⌝ }
     {
@@ -54,7 +54,7 @@ impl<'a, 'b, 'c, M: CellMemory, F: Bag, C: Bag> Symbols<'a, 'b, 'c, M, F, C> {
         Ok(())
     }
 
-    // Register b of task m holds directory cell j.
+    // Puts directory cell j into register b of task m.
     pub fn point(&mut self, m: usize, j: u16, b: usize) -> Result<u16, Refusal>
         ensures { λ r. ⌜ Does M·CellMemory F·Bag C·Bag (point m j b) (now (self .entry)) (now (self .exit)) r ⌝ }
     {
@@ -79,7 +79,7 @@ impl<'a, 'b, 'c, M: CellMemory, F: Bag, C: Bag> Symbols<'a, 'b, 'c, M, F, C> {
         Ok(Some(j))
     }
 
-    // Register b of task m holds what register a holds.
+    // Copies register a of task m into register b.
     pub fn move_register(&mut self, m: usize, a: usize, b: usize) -> Result<u16, Refusal>
         ensures { λ r. ⌜ Does M·CellMemory F·Bag C·Bag (move m a b) (now (self .entry)) (now (self .exit)) r ⌝ }
     {
@@ -101,7 +101,7 @@ impl<'a, 'b, 'c, M: CellMemory, F: Bag, C: Bag> Symbols<'a, 'b, 'c, M, F, C> {
         Ok(task.register(a))
     }
 
-    // Register b of task m is emptied.
+    // Empties register b of task m.
     pub fn clear_register(&mut self, m: usize, b: usize) -> Result<u16, Refusal>
         ensures { λ r. ⌜ Does M·CellMemory F·Bag C·Bag (clear m b) (now (self .entry)) (now (self .exit)) r ⌝ }
     {
@@ -123,7 +123,7 @@ impl<'a, 'b, 'c, M: CellMemory, F: Bag, C: Bag> Symbols<'a, 'b, 'c, M, F, C> {
         Ok(None)
     }
 
-    // Register b of task m holds link i of the cell in register a.
+    // Copies link i of the cell in register a of task m into register b.
     pub fn load(&mut self, m: usize, a: usize, i: usize, b: usize) -> Result<u16, Refusal>
         ensures { λ r. ⌜ Does M·CellMemory F·Bag C·Bag (load m a i b) (now (self .entry)) (now (self .exit)) r ⌝ }
     {

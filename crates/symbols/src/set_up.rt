@@ -35,7 +35,11 @@ fn at_rest() -> Collector
 
 impl<'a, 'b, 'c, M: CellMemory, F: Bag, C: Bag> Symbols<'a, 'b, 'c, M, F, C> {
     // A symbol memory that is not set up yet, and so has no slots; what is lent stays as it is.
-    pub fn over(memory: &'a mut M, free: &'b mut F, cache: &'c mut C) -> Symbols<'a, 'b, 'c, M, F, C>
+    pub fn over(
+        memory: &'a mut M,
+        free: &'b mut F,
+        cache: &'c mut C,
+    ) -> Symbols<'a, 'b, 'c, M, F, C>
         ensures state { λ r. ⌜ stateOf M·CellMemory F·Bag C·Bag r ≡ notSetUp (M·CellMemory .means (now (memory .entry))) (M·CellMemory .links) (F·Bag .means (now (free .entry))) (C·Bag .means (now (cache .entry))) ⌝ }
         ensures memory { λ r. ⌜ now (r .memory) ≡ now (memory .entry) ⌝ }
         ensures free { λ r. ⌜ now (r .free) ≡ now (free .entry) ⌝ }
@@ -54,7 +58,7 @@ impl<'a, 'b, 'c, M: CellMemory, F: Bag, C: Bag> Symbols<'a, 'b, 'c, M, F, C> {
         }
     }
 
-    // The first d cells become the directory, the others free; no task is present.
+    // Begins anew with d directory cells: every other cell free, all links empty, no task.
     pub fn set_up(&mut self, d: u16) -> Result<u16, Refusal>
         ensures { λ r. ⌜ Does M·CellMemory F·Bag C·Bag (setUp d) (now (self .entry)) (now (self .exit)) r ⌝ }
     {

@@ -88,12 +88,12 @@ impl Tasks {
         Tasks { slots: [None; 8] }
     }
 
-    // What stands in slot m.
-    pub fn get(&self, m: usize) -> Option<Task>
-        requires { ⌜ m < 8 ⌝ }
-        ensures { λ r. ⌜ r ≡ getD (now (self .entry) .slots) m None ⌝ }
+    // What stands in a slot.
+    pub fn get(&self, slot: usize) -> Option<Task>
+        requires { ⌜ slot < 8 ⌝ }
+        ensures { λ r. ⌜ r ≡ getD (now (self .entry) .slots) slot None ⌝ }
     {
-        self.slots[m]
+        self.slots[slot]
     }
 
     // The task in slot m, where it has no unfinished work.

@@ -11,10 +11,9 @@ use Rattle.std.specs.declared.option.Option.{Option}
 use Rattle.std.specs.declared.option.Option.the-variants.{Some, None}
 use Rattle.std.specs.declared.result.Result.{Result}
 use Rattle.std.specs.declared.result.Result.the-variants.{Ok, Err}
-use Rattle.bags.specs.Holding.{hasMember}
 use Rattle.rules.specs.declared.Refusal.{Refusal}
 use Rattle.rules.specs.declared.Refusal.the-variants.{NoTask}
-use Rattle.rules.specs.State.{Task, State, need, hasSlot, isIdle, ofIdleTask}
+use Rattle.rules.specs.State.{Task, need, hasSlot, isIdle, ofIdleTask}
 use Rattle.rules.specs.Pools.{reservable, reserveChecks, giveBackChecks}
 
 -- a check that passed
@@ -33,35 +32,35 @@ idle-passed (Some t) next x f = let p = need-passed (isIdle (t .work)) _ (next t
 pub ok-same : {A : Type 0} {x y : A} → _≡_ {A = Result A Refusal} (Ok x) (Ok y) → x ≡ y
 ok-same e = cc
 
-pub record Reserves (s : State) (m k : ℕ) : Type 0 where
+pub record Reserves (d free : ℕ) (tasks : ℕ → Option Task) (m k : ℕ) : Type 0 where
   pub task : Task
-  pub present : s .tasks m ≡ Some task
+  pub present : tasks m ≡ Some task
   pub place : length (task .pool) < 4
-  pub some : 0 < length (s .free .members)
-  pub many : k ≡ reservable s task
+  pub some : 0 < free
+  pub many : k ≡ reservable free task
 
-pub reserve-checked : (s : State) (m k : ℕ) → Ok k ≡ reserveChecks m s → Reserves s m k
-reserve-checked s m k e =
-    let slot = need-passed (hasSlot s m) _ _ k e in
-    let found = idle-passed (s .tasks m) _ k (slot .1) in
+pub reserve-checked : (d free : ℕ) (tasks : ℕ → Option Task) (m k : ℕ) → Ok k ≡ reserveChecks d free tasks m → Reserves d free tasks m k
+reserve-checked d free tasks m k e =
+    let slot = need-passed (hasSlot d m) _ _ k e in
+    let found = idle-passed (tasks m) _ k (slot .1) in
     let t = found .0 in
     let place = need-passed (ltb (length (t .pool)) 4) _ _ k (found .1 .2) in
-    let some = need-passed (hasMember (s .free)) _ _ k (place .1) in
+    let some = need-passed (ltb 0 free) _ _ k (place .1) in
     record {
       task = t;
       present = found .1 .0;
       place = ltb-true (length (t .pool)) 4 (place .0);
-      some = ltb-true 0 (length (s .free .members)) (some .0);
+      some = ltb-true 0 free (some .0);
       many = ok-same (some .1);
     }
 
-pub record GivesBack (s : State) (m k : ℕ) : Type 0 where
+pub record GivesBack (tasks : ℕ → Option Task) (m k : ℕ) : Type 0 where
   pub task : Task
-  pub present : s .tasks m ≡ Some task
+  pub present : tasks m ≡ Some task
   pub many : k ≡ length (task .pool)
 
-pub give-back-checked : (s : State) (m k : ℕ) → Ok k ≡ giveBackChecks m s → GivesBack s m k
-give-back-checked s m k e =
-    let slot = need-passed (hasSlot s m) _ _ k e in
-    let found = idle-passed (s .tasks m) _ k (slot .1) in
+pub give-back-checked : (d : ℕ) (tasks : ℕ → Option Task) (m k : ℕ) → Ok k ≡ giveBackChecks d tasks m → GivesBack tasks m k
+give-back-checked d tasks m k e =
+    let slot = need-passed (hasSlot d m) _ _ k e in
+    let found = idle-passed (tasks m) _ k (slot .1) in
     record { task = found .0; present = found .1 .0; many = ok-same (found .1 .2) }

@@ -7,20 +7,20 @@ use Rattle.std.specs.declared.option.Option.{Option}
 use Rattle.std.specs.declared.option.Option.the-variants.{Some, None}
 use Rattle.std.specs.declared.result.Result.{Result}
 use Rattle.std.specs.declared.result.Result.the-variants.{Ok}
-use Rattle.bags.specs.Holding.{Hold, hasMember, putInto, takenFrom}
+use Rattle.bags.specs.Holding.{Hold, putInto, takenFrom}
 use Rattle.rules.specs.declared.Refusal.{Refusal}
 use Rattle.rules.specs.declared.Refusal.the-variants.{NoSuchSlot, PoolFull, FreeListEmpty}
 use Rattle.rules.specs.State.{Task, State, Outcome, accepted, need, by, withTask, withFree, withPool, hasSlot, ofIdleTask}
 
 -- a reserve fills the pool up to four cells, as far as the free list goes
-abbrev pub reservable : State → Task → ℕ
-reservable s t = min (4 - length (t .pool)) (length (s .free .members))
+abbrev pub reservable : ℕ → Task → ℕ
+reservable free t = min (4 - length (t .pool)) free
 
--- how many cells are to go to the pool
-abbrev pub reserveChecks : ℕ → State → Result ℕ Refusal
-reserveChecks m s =
-    need (hasSlot s m) NoSuchSlot (ofIdleTask (s .tasks m) (λ t.
-    need (ltb (length (t .pool)) 4) PoolFull (need (hasMember (s .free)) FreeListEmpty (Ok (reservable s t)))))
+-- how many cells are to go to the pool from a free list of so many
+abbrev pub reserveChecks : ℕ → ℕ → (ℕ → Option Task) → ℕ → Result ℕ Refusal
+reserveChecks d free tasks m =
+    need (hasSlot d m) NoSuchSlot (ofIdleTask (tasks m) (λ t.
+    need (ltb (length (t .pool)) 4) PoolFull (need (ltb 0 free) FreeListEmpty (Ok (reservable free t)))))
 
 -- the free list once k members were taken
 abbrev pub left : ℕ → Hold → Hold
@@ -41,11 +41,11 @@ abbrev pub reserving : State → ℕ → ℕ → State
 reserving s m k = withFree (withTask s m (withDrawn k (s .free) (s .tasks m))) (left k (s .free))
 
 abbrev pub reserve : ℕ → State → Outcome
-reserve m s = by s (reserveChecks m s) (λ k. accepted k (reserving s m k))
+reserve m s = by s (reserveChecks (s .directory) (length (s .free .members)) (s .tasks) m) (λ k. accepted k (reserving s m k))
 
 -- how many cells are in the pool
-abbrev pub giveBackChecks : ℕ → State → Result ℕ Refusal
-giveBackChecks m s = need (hasSlot s m) NoSuchSlot (ofIdleTask (s .tasks m) (λ t. Ok (length (t .pool))))
+abbrev pub giveBackChecks : ℕ → (ℕ → Option Task) → ℕ → Result ℕ Refusal
+giveBackChecks d tasks m = need (hasSlot d m) NoSuchSlot (ofIdleTask (tasks m) (λ t. Ok (length (t .pool))))
 
 -- the free list once the numbers were put, one after the other
 abbrev pub puts : Hold → List ℕ → Hold
@@ -62,4 +62,4 @@ withPoolOf xs (Some t) = Some (withPool t xs)
 
 abbrev pub giveBack : ℕ → State → Outcome
 giveBack m s =
-    by s (giveBackChecks m s) (λ k. accepted k (withFree (withTask s m (withPoolOf [] (s .tasks m))) (puts (s .free) (poolIn (s .tasks m)))))
+    by s (giveBackChecks (s .directory) (s .tasks) m) (λ k. accepted k (withFree (withTask s m (withPoolOf [] (s .tasks m))) (puts (s .free) (poolIn (s .tasks m)))))

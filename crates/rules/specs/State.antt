@@ -65,9 +65,9 @@ withRegister t b v = record { status = t .status; registers = at b v (t .registe
 abbrev pub withPool : Task → List ℕ → Task
 withPool t xs = record { status = t .status; registers = t .registers; pool = xs; work = t .work }
 
--- there are eight slots, and none before the set up
-abbrev pub hasSlot : State → ℕ → Bool
-hasSlot s m = cond (eqb (s .directory) 0) false (ltb m 8)
+-- beside d directory cells there are eight slots; before the set up, when d is 0, there is none
+abbrev pub hasSlot : ℕ → ℕ → Bool
+hasSlot d m = cond (eqb d 0) false (ltb m 8)
 
 abbrev pub isRegister : ℕ → Bool
 isRegister a = ltb a 8

@@ -1,4 +1,5 @@
--- Tasks that begin and end, and their registers. Each call has its checks, in the order of their numbers, and what it does.
+-- Tasks that begin and end, and their registers. Each call has its checks, in the order of their numbers, and what it does;
+-- checks look at d, the number of directory cells, and at the tasks.
 use mathlib.Core.Bool.{Bool, true, false, cond}
 use mathlib.Core.List.{List, [], _∷_}
 use Prim.Native.Nat.{ℕ}
@@ -20,21 +21,21 @@ abbrev pub vacant : Option Task → Result (Unit {0}) Refusal
 vacant None = Ok tt
 vacant (Some t) = Err SlotTaken
 
-abbrev pub enterChecks : ℕ → State → Result (Unit {0}) Refusal
-enterChecks p s = need (hasSlot s p) NoSuchSlot (vacant (s .tasks p))
+abbrev pub enterChecks : ℕ → (ℕ → Option Task) → ℕ → Result (Unit {0}) Refusal
+enterChecks d tasks p = need (hasSlot d p) NoSuchSlot (vacant (tasks p))
 
 abbrev pub enter : ℕ → State → Outcome
-enter p s = by s (enterChecks p s) (λ _. accepted 0 (withTask s p (Some (newTask (s .collector .status)))))
+enter p s = by s (enterChecks (s .directory) (s .tasks) p) (λ _. accepted 0 (withTask s p (Some (newTask (s .collector .status)))))
 
 abbrev pub isEmpty : List ℕ → Bool
 isEmpty [] = true
 isEmpty (x ∷ xs) = false
 
-abbrev pub leaveChecks : ℕ → State → Result (Unit {0}) Refusal
-leaveChecks m s = need (hasSlot s m) NoSuchSlot (ofIdleTask (s .tasks m) (λ t. need (isEmpty (t .pool)) PoolNotEmpty (Ok tt)))
+abbrev pub leaveChecks : ℕ → (ℕ → Option Task) → ℕ → Result (Unit {0}) Refusal
+leaveChecks d tasks m = need (hasSlot d m) NoSuchSlot (ofIdleTask (tasks m) (λ t. need (isEmpty (t .pool)) PoolNotEmpty (Ok tt)))
 
 abbrev pub leave : ℕ → State → Outcome
-leave m s = by s (leaveChecks m s) (λ _. accepted 0 (withTask s m None))
+leave m s = by s (leaveChecks (s .directory) (s .tasks) m) (λ _. accepted 0 (withTask s m None))
 
 abbrev pub withHeld : Option Task → ℕ → Option ℕ → Option Task
 withHeld None b v = None
@@ -45,39 +46,39 @@ abbrev pub holds : State → ℕ → ℕ → Option ℕ → Outcome
 holds s m b v = accepted 0 (withTask s m (withHeld (s .tasks m) b v))
 
 -- directory cell j, for register b
-abbrev pub pointChecks : ℕ → ℕ → ℕ → State → Result (Option ℕ) Refusal
-pointChecks m j b s =
-    need (hasSlot s m) NoSuchSlot (need (isRegister b) NoSuchRegister (need (ltb j (s .directory)) NoSuchDirectoryCell
-    (ofIdleTask (s .tasks m) (λ t. Ok (Some j)))))
+abbrev pub pointChecks : ℕ → (ℕ → Option Task) → ℕ → ℕ → ℕ → Result (Option ℕ) Refusal
+pointChecks d tasks m j b =
+    need (hasSlot d m) NoSuchSlot (need (isRegister b) NoSuchRegister (need (ltb j d) NoSuchDirectoryCell
+    (ofIdleTask (tasks m) (λ t. Ok (Some j)))))
 
 abbrev pub point : ℕ → ℕ → ℕ → State → Outcome
-point m j b s = by s (pointChecks m j b s) (holds s m b)
+point m j b s = by s (pointChecks (s .directory) (s .tasks) m j b) (holds s m b)
 
 -- what register a holds, for register b
-abbrev pub moveChecks : ℕ → ℕ → ℕ → State → Result (Option ℕ) Refusal
-moveChecks m a b s =
-    need (hasSlot s m) NoSuchSlot (need (isRegister a) NoSuchRegister (need (isRegister b) NoSuchRegister
-    (ofIdleTask (s .tasks m) (λ t. Ok (t .registers a)))))
+abbrev pub moveChecks : ℕ → (ℕ → Option Task) → ℕ → ℕ → ℕ → Result (Option ℕ) Refusal
+moveChecks d tasks m a b =
+    need (hasSlot d m) NoSuchSlot (need (isRegister a) NoSuchRegister (need (isRegister b) NoSuchRegister
+    (ofIdleTask (tasks m) (λ t. Ok (t .registers a)))))
 
 abbrev pub move : ℕ → ℕ → ℕ → State → Outcome
-move m a b s = by s (moveChecks m a b s) (holds s m b)
+move m a b s = by s (moveChecks (s .directory) (s .tasks) m a b) (holds s m b)
 
 -- nothing, for register b
-abbrev pub clearChecks : ℕ → ℕ → State → Result (Option ℕ) Refusal
-clearChecks m b s = need (hasSlot s m) NoSuchSlot (need (isRegister b) NoSuchRegister (ofIdleTask (s .tasks m) (λ t. Ok None)))
+abbrev pub clearChecks : ℕ → (ℕ → Option Task) → ℕ → ℕ → Result (Option ℕ) Refusal
+clearChecks d tasks m b = need (hasSlot d m) NoSuchSlot (need (isRegister b) NoSuchRegister (ofIdleTask (tasks m) (λ t. Ok None)))
 
 abbrev pub clear : ℕ → ℕ → State → Outcome
-clear m b s = by s (clearChecks m b s) (holds s m b)
+clear m b s = by s (clearChecks (s .directory) (s .tasks) m b) (holds s m b)
 
-abbrev pub linkFrom : State → ℕ → Option ℕ → Result (Option ℕ) Refusal
-linkFrom s i None = Err RegisterEmpty
-linkFrom s i (Some x) = Ok (s .cells .link x i)
+abbrev pub cellIn : Option ℕ → Result ℕ Refusal
+cellIn None = Err RegisterEmpty
+cellIn (Some x) = Ok x
 
--- link i of the cell in register a, for register b
-abbrev pub loadChecks : ℕ → ℕ → ℕ → ℕ → State → Result (Option ℕ) Refusal
-loadChecks m a i b s =
-    need (hasSlot s m) NoSuchSlot (need (isRegister a) NoSuchRegister (need (isRegister b) NoSuchRegister (need (ltb i (s .links)) NoSuchLink
-    (ofIdleTask (s .tasks m) (λ t. linkFrom s i (t .registers a))))))
+-- the cell in register a, of which link i, one of L, is for register b
+abbrev pub loadChecks : ℕ → ℕ → (ℕ → Option Task) → ℕ → ℕ → ℕ → ℕ → Result ℕ Refusal
+loadChecks d L tasks m a i b =
+    need (hasSlot d m) NoSuchSlot (need (isRegister a) NoSuchRegister (need (isRegister b) NoSuchRegister (need (ltb i L) NoSuchLink
+    (ofIdleTask (tasks m) (λ t. cellIn (t .registers a))))))
 
 abbrev pub load : ℕ → ℕ → ℕ → ℕ → State → Outcome
-load m a i b s = by s (loadChecks m a i b s) (holds s m b)
+load m a i b s = by s (loadChecks (s .directory) (s .links) (s .tasks) m a i b) (λ x. holds s m b (s .cells .link x i))

@@ -44,7 +44,7 @@ module _ (s : State) (m : ℕ) where
   pub none-drawn : s ≡ reserving s m 0
   none-drawn = sym (task-as-it-was s m (withDrawn 0 (s .free) (s .tasks m)) (sym (drawn-none (s .free) (s .tasks m))))
 
-  module _ (wanted : ℕ) (found : Reserves s m wanted) (fair : Fair (s .free .manner)) (k : ℕ) (due : k < wanted) where
+  module _ (wanted : ℕ) (found : Reserves (s .directory) (length (s .free .members)) (s .tasks) m wanted) (fair : Fair (s .free .manner)) (k : ℕ) (due : k < wanted) where
     pool : List ℕ
     pool = drawn k (s .free) (found .task .pool)
 

@@ -1,8 +1,7 @@
 // Cells that go between the free list and the tasks' pools.
 ghost use mathlib.Core.Path.{_≡_};
-ghost use Prim.Native.Nat.{_<_, _≤_};
-ghost use Rattle.std.specs.Vec.{made};
-ghost use Rattle.rules.specs.Pools.{giveBack, giveBackChecks, reserve, reserveChecks};
+ghost use Prim.Native.Nat.{_<_};
+ghost use Rattle.rules.specs.Pools.{giveBack, reserve};
 ghost use Rattle.symbols.specs.Moves.{drawing, returning};
 ghost use Rattle.symbols.specs.Views.{stateOf, Becomes, Does};
 use super::parts::Symbols;
@@ -15,31 +14,12 @@ impl<'a, 'b, 'c, M: CellMemory, F: Bag, C: Bag> Symbols<'a, 'b, 'c, M, F, C> {
     pub fn reserve(&mut self, m: usize) -> Result<u16, Refusal>
         ensures { λ r. ⌜ Does M·CellMemory F·Bag C·Bag (reserve m) (now (self .entry)) (now (self .exit)) r ⌝ }
     {
-        let wanted = self.check_reserve(m)?;
+        let wanted = self.tasks
+            .check_reserve(self.directory, self.free.count(), m)?;
         for _k in 0..wanted {
             self.draw(m);
         }
         Ok(wanted as u16)
-    }
-
-    // How many cells to draw.
-    fn check_reserve(&self, m: usize) -> Result<usize, Refusal>
-        ensures checks { λ r. ⌜ r ≡ reserveChecks m (stateOf M·CellMemory F·Bag C·Bag (now (self .entry))) ⌝ }
-        ensures few { λ r. ⌜ made r (λ k. k ≤ 4) ⌝ }
-    {
-        if !self.has_slot(m) {
-            return Err(Refusal::NoSuchSlot);
-        }
-        let task = self.tasks.idle(m)?;
-        let held = task.pool.len();
-        if held >= 4 {
-            return Err(Refusal::PoolFull);
-        }
-        let free = self.free.count();
-        if free == 0 {
-            return Err(Refusal::FreeListEmpty);
-        }
-        Ok((4 - held).min(free))
     }
 
     // One cell, as the free list chooses, into the pool of task m.
@@ -56,23 +36,11 @@ impl<'a, 'b, 'c, M: CellMemory, F: Bag, C: Bag> Symbols<'a, 'b, 'c, M, F, C> {
     pub fn give_back(&mut self, m: usize) -> Result<u16, Refusal>
         ensures { λ r. ⌜ Does M·CellMemory F·Bag C·Bag (giveBack m) (now (self .entry)) (now (self .exit)) r ⌝ }
     {
-        let held = self.check_give_back(m)?;
+        let held = self.tasks.check_give_back(self.directory, m)?;
         for _k in 0..held {
             self.return_one(m);
         }
         Ok(held as u16)
-    }
-
-    // How many cells to put back.
-    fn check_give_back(&self, m: usize) -> Result<usize, Refusal>
-        ensures checks { λ r. ⌜ r ≡ giveBackChecks m (stateOf M·CellMemory F·Bag C·Bag (now (self .entry))) ⌝ }
-        ensures few { λ r. ⌜ made r (λ k. k ≤ 4) ⌝ }
-    {
-        if !self.has_slot(m) {
-            return Err(Refusal::NoSuchSlot);
-        }
-        let task = self.tasks.idle(m)?;
-        Ok(task.pool.len())
     }
 
     // The newest cell of the pool of task m, back into the free list.

@@ -16,44 +16,23 @@ use rules::Status;
 impl<'a, 'b, 'c, M: CellMemory, F: Bag, C: Bag> Symbols<'a, 'b, 'c, M, F, C> {
     // What register j of task m holds.
     pub fn register(&self, m: usize, j: usize) -> Result<Option<u16>, Refusal>
-        ensures { λ r. ⌜ r ≡ registerTold m j (stateOf M·CellMemory F·Bag C·Bag (now (self .entry))) ⌝ }
+        ensures { λ r. ⌜ r ≡ registerTold (stateOf M·CellMemory F·Bag C·Bag (now (self .entry)) .directory) (stateOf M·CellMemory F·Bag C·Bag (now (self .entry)) .tasks) m j ⌝ }
     {
-        if !self.has_slot(m) {
-            return Err(Refusal::NoSuchSlot);
-        }
-        if j >= 8 {
-            return Err(Refusal::NoSuchRegister);
-        }
-        match self.tasks.get(m) {
-            Some(task) => Ok(task.register(j)),
-            None => Err(Refusal::NoTask),
-        }
+        self.tasks.register(self.directory, m, j)
     }
 
     // The status of task m.
     pub fn status(&self, m: usize) -> Result<Status, Refusal>
-        ensures { λ r. ⌜ r ≡ statusTold m (stateOf M·CellMemory F·Bag C·Bag (now (self .entry))) ⌝ }
+        ensures { λ r. ⌜ r ≡ statusTold (stateOf M·CellMemory F·Bag C·Bag (now (self .entry)) .directory) (stateOf M·CellMemory F·Bag C·Bag (now (self .entry)) .tasks) m ⌝ }
     {
-        if !self.has_slot(m) {
-            return Err(Refusal::NoSuchSlot);
-        }
-        match self.tasks.get(m) {
-            Some(task) => Ok(task.status),
-            None => Err(Refusal::NoTask),
-        }
+        self.tasks.status(self.directory, m)
     }
 
     // How many cells the pool of task m has.
     pub fn pool_count(&self, m: usize) -> Result<usize, Refusal>
-        ensures { λ r. ⌜ r ≡ poolTold m (stateOf M·CellMemory F·Bag C·Bag (now (self .entry))) ⌝ }
+        ensures { λ r. ⌜ r ≡ poolTold (stateOf M·CellMemory F·Bag C·Bag (now (self .entry)) .directory) (stateOf M·CellMemory F·Bag C·Bag (now (self .entry)) .tasks) m ⌝ }
     {
-        if !self.has_slot(m) {
-            return Err(Refusal::NoSuchSlot);
-        }
-        match self.tasks.get(m) {
-            Some(task) => Ok(task.pool.len()),
-            None => Err(Refusal::NoTask),
-        }
+        self.tasks.pool_count(self.directory, m)
     }
 
     // How many cells the memory has.

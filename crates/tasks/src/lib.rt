@@ -11,6 +11,7 @@ ghost use Rattle.tasks.specs.Parts.{taskOf, slotOf, tasksOf, poolOf, idleIn, g
 use rules::Refusal;
 use rules::Status;
 
+mod checks;
 mod parts;
 
 pub use parts::Pool;

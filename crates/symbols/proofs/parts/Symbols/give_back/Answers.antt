@@ -21,7 +21,7 @@ pub loop-k-again : need.loop-k-again
 loop-k-again g c =
     let s = stateOf (g .M·CellMemory) (g .F·Bag) (g .C·Bag) (c .args .self .now) in
     let m = c .args .m in
-    let found = give-back-checked s m (c .in-Continue-held .held) (c .in-Continue-held .ensures tt .checks) in
+    let found = give-back-checked (s .directory) (s .tasks) m (c .in-Continue-held .held) (c .in-Continue-held .ensures tt .checks) in
     let size : c .in-Continue-held .held ≡ length (poolIn (s .tasks m)) = found .many ∙ ap (λ o. length (poolIn o)) (sym (found .present)) in
     record {
       state = c .return-one .ensures .state ∙ ap (returning m) (c .loop-k .inv .state) ∙ one-returned s m (c .loop-k .-k) (omega arith);
@@ -33,12 +33,12 @@ returns g c =
     let s = stateOf (g .M·CellMemory) (g .F·Bag) (g .C·Bag) (c .args .self .now) in
     let m = c .args .m in
     let held = c .in-Continue-held .held in
-    let found = give-back-checked s m held (c .in-Continue-held .ensures tt .checks) in
+    let found = give-back-checked (s .directory) (s .tasks) m held (c .in-Continue-held .ensures tt .checks) in
     let size : held ≡ length (poolIn (s .tasks m)) = found .many ∙ ap (λ o. length (poolIn o)) (sym (found .present)) in
     let end : c .loop-k .-k ≡ length (poolIn (s .tasks m)) = omega arith in
     record {
       result =
           ap (accepted held) (c .loop-k .inv .state ∙ ap (returned s m) end ∙ all-returned s m)
-          ∙ passed s (giveBackChecks m s) (λ k. accepted k (withFree (withTask s m (withPoolOf [] (s .tasks m))) (puts (s .free) (poolIn (s .tasks m))))) held (c .in-Continue-held .ensures tt .checks);
+          ∙ passed s (giveBackChecks (s .directory) (s .tasks) m) (λ k. accepted k (withFree (withTask s m (withPoolOf [] (s .tasks m))) (puts (s .free) (poolIn (s .tasks m))))) held (c .in-Continue-held .ensures tt .checks);
       lent = c .loop-k .inv .lent;
     }

@@ -4,3 +4,12 @@ pub mod Tasks
 pub mod Pools
 pub mod SettingUp
 pub mod Questions
+pub mod Greying
+pub mod Makings
+pub mod Changes
+pub mod Handshake
+pub mod Collecting
+pub mod Examples
+pub mod Turns
+pub mod Reach
+pub mod Law

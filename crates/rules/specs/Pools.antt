@@ -10,7 +10,7 @@ use Rattle.std.specs.declared.result.Result.the-variants.{Ok}
 use Rattle.bags.specs.Holding.{Hold, putInto, takenFrom}
 use Rattle.rules.specs.declared.Refusal.{Refusal}
 use Rattle.rules.specs.declared.Refusal.the-variants.{NoSuchSlot, PoolFull, FreeListEmpty}
-use Rattle.rules.specs.State.{Task, State, Outcome, accepted, need, by, withTask, withFree, withPool, hasSlot, ofIdleTask}
+use Rattle.rules.specs.State.{Task, State, Outcome, accepted, need, by, withTask, withFree, withPool, inSlot, hasSlot, ofIdleTask}
 
 -- a reserve fills the pool up to four cells, as far as the free list goes
 abbrev pub reservable : ℕ → Task → ℕ
@@ -33,8 +33,7 @@ drawn zero h pool = pool
 drawn (suc k) h pool = left k h .manner .choice (left k h .members) ∷ drawn k h pool
 
 abbrev pub withDrawn : ℕ → Hold → Option Task → Option Task
-withDrawn k h None = None
-withDrawn k h (Some t) = Some (withPool t (drawn k h (t .pool)))
+withDrawn k h o = inSlot (λ t. withPool t (drawn k h (t .pool))) o
 
 -- k cells go from the free list to the pool of task m
 abbrev pub reserving : State → ℕ → ℕ → State
@@ -57,8 +56,7 @@ poolIn None = []
 poolIn (Some t) = t .pool
 
 abbrev pub withPoolOf : List ℕ → Option Task → Option Task
-withPoolOf xs None = None
-withPoolOf xs (Some t) = Some (withPool t xs)
+withPoolOf xs o = inSlot (λ t. withPool t xs) o
 
 abbrev pub giveBack : ℕ → State → Outcome
 giveBack m s =

@@ -3,6 +3,7 @@ use mathlib.Core.Bool.{Bool, true, false, cond}
 use mathlib.Core.List.{List, [], _∷_}
 use Prim.Native.Nat.{ℕ}
 use lib.Dec.{eqb, ltb}
+use lib.ListN.{length}
 use Rattle.std.specs.declared.option.Option.{Option}
 use Rattle.std.specs.declared.option.Option.the-variants.{Some, None}
 use Rattle.std.specs.declared.result.Result.{Result}
@@ -56,14 +57,38 @@ by s (Err e) done = refused e s
 abbrev pub withTask : State → ℕ → Option Task → State
 withTask s m t = record { cells = s .cells; links = s .links; free = s .free; cache = s .cache; directory = s .directory; tasks = at m t (s .tasks); collector = s .collector }
 
+abbrev pub withCells : State → Cells → State
+withCells s x = record { cells = x; links = s .links; free = s .free; cache = s .cache; directory = s .directory; tasks = s .tasks; collector = s .collector }
+
 abbrev pub withFree : State → Hold → State
 withFree s h = record { cells = s .cells; links = s .links; free = h; cache = s .cache; directory = s .directory; tasks = s .tasks; collector = s .collector }
+
+abbrev pub withCache : State → Hold → State
+withCache s h = record { cells = s .cells; links = s .links; free = s .free; cache = h; directory = s .directory; tasks = s .tasks; collector = s .collector }
+
+abbrev pub withCollector : State → Collector → State
+withCollector s c = record { cells = s .cells; links = s .links; free = s .free; cache = s .cache; directory = s .directory; tasks = s .tasks; collector = c }
 
 abbrev pub withRegister : Task → ℕ → Option ℕ → Task
 withRegister t b v = record { status = t .status; registers = at b v (t .registers); pool = t .pool; work = t .work }
 
 abbrev pub withPool : Task → List ℕ → Task
 withPool t xs = record { status = t .status; registers = t .registers; pool = xs; work = t .work }
+
+abbrev pub withWork : Task → Option Work → Task
+withWork t x = record { status = t .status; registers = t .registers; pool = t .pool; work = x }
+
+abbrev pub withStatus : Task → Status → Task
+withStatus t q = record { status = q; registers = t .registers; pool = t .pool; work = t .work }
+
+-- a pool with one cell more, where it has a place
+abbrev pub grown : List ℕ → ℕ → List ℕ
+grown pool x = cond (ltb (length pool) 4) (x ∷ pool) pool
+
+-- a slot's task, if there is one, changed
+abbrev pub inSlot : (Task → Task) → Option Task → Option Task
+inSlot change None = None
+inSlot change (Some t) = Some (change t)
 
 -- beside d directory cells there are eight slots; before the set up, when d is 0, there is none
 abbrev pub hasSlot : ℕ → ℕ → Bool

@@ -11,7 +11,7 @@ use Rattle.std.specs.declared.result.Result.the-variants.{Ok, Err}
 use Rattle.rules.specs.declared.Status.{Status}
 use Rattle.rules.specs.declared.Refusal.{Refusal}
 use Rattle.rules.specs.declared.Refusal.the-variants.{NoSuchSlot, NoSuchRegister, NoSuchLink, NoSuchDirectoryCell, SlotTaken, RegisterEmpty, PoolNotEmpty}
-use Rattle.rules.specs.State.{Task, State, Outcome, accepted, need, by, withTask, withRegister, hasSlot, isRegister, ofIdleTask}
+use Rattle.rules.specs.State.{Task, State, Outcome, accepted, need, by, withTask, withRegister, inSlot, hasSlot, isRegister, ofIdleTask}
 
 -- a task as it begins
 abbrev pub newTask : Status → Task
@@ -38,8 +38,7 @@ abbrev pub leave : ℕ → State → Outcome
 leave m s = by s (leaveChecks (s .directory) (s .tasks) m) (λ _. accepted 0 (withTask s m None))
 
 abbrev pub withHeld : Option Task → ℕ → Option ℕ → Option Task
-withHeld None b v = None
-withHeld (Some t) b v = Some (withRegister t b v)
+withHeld o b v = inSlot (λ t. withRegister t b v) o
 
 -- register b of task m holds v
 abbrev pub holds : State → ℕ → ℕ → Option ℕ → Outcome

@@ -1,5 +1,6 @@
 // The words that the rules of the symbol memory are told in; the rules themselves are definitions in specs/.
 ghost use mathlib.Core.Path.{_≡_};
+ghost use Rattle.rules.specs.Examples.{WorkedExamples};
 ghost use Rattle.rules.specs.Refusals.{refusalNumber};
 
 // How far a task or the collector is with the handshake.
@@ -85,6 +86,79 @@ pub enum Work {
     },
 }
 
+// What can be asked of a symbol memory that is set up, one turn each. The letters are those of the rules: slots m and p, registers a
+// and b, a link i, a directory cell j, and a ticket of m and x.
+#[derive(Clone, Copy)]
+pub enum Call {
+    Enter {
+        p: usize,
+    },
+    Launch {
+        m: usize,
+        p: usize,
+        mask: u8,
+    },
+    Leave {
+        m: usize,
+    },
+    Point {
+        m: usize,
+        j: u16,
+        b: usize,
+    },
+    Move {
+        m: usize,
+        a: usize,
+        b: usize,
+    },
+    Clear {
+        m: usize,
+        b: usize,
+    },
+    Load {
+        m: usize,
+        a: usize,
+        i: usize,
+        b: usize,
+    },
+    Reserve {
+        m: usize,
+    },
+    GiveBack {
+        m: usize,
+    },
+    Make {
+        m: usize,
+    },
+    CarryOn {
+        m: usize,
+    },
+    Fill {
+        m: usize,
+        i: usize,
+        a: usize,
+    },
+    Finish {
+        m: usize,
+        x: u16,
+        b: usize,
+    },
+    Scrap {
+        m: usize,
+        x: u16,
+    },
+    Change {
+        m: usize,
+        a: usize,
+        i: usize,
+        b: usize,
+    },
+    Cooperate {
+        m: usize,
+    },
+    Collect,
+}
+
 // Why a call of the symbol memory is refused, in the order of the checks.
 #[derive(Clone, Copy, PartialEq, Eq, Debug)]
 pub enum Refusal {
@@ -135,4 +209,11 @@ impl Refusal {
             Refusal::NotSettled => 22,
         }
     }
+}
+
+// The worked examples hold of the definitions.
+pub fn worked_examples() -> u8
+    ensures { λ _. ⌜ WorkedExamples ⌝ }
+{
+    0
 }

@@ -11,11 +11,11 @@ use Rattle.std.specs.declared.option.Option.{Option}
 use Rattle.std.specs.declared.option.Option.the-variants.{Some, None}
 use Rattle.cells.specs.Memory.{at}
 use Rattle.bags.specs.Holding.{Hold, Fair, holding, hasMember}
-use Rattle.rules.specs.State.{Task, State, withPool}
+use Rattle.rules.specs.State.{Task, State, grown, withPool}
 use Rattle.rules.specs.Pools.{left, drawn, withDrawn, reserving}
 use Rattle.rules.proofs.States.{at-here, at-again, task-as-it-was}
 use Rattle.rules.proofs.Checked.{Reserves}
-use Rattle.tasks.specs.Parts.{grown, withGrown}
+use Rattle.tasks.specs.Parts.{withGrown}
 use Rattle.symbols.specs.Moves.{drawing}
 
 left-manner : (k : ℕ) (h : Hold) → left k h .manner ≡ h .manner

@@ -14,9 +14,9 @@ use Rattle.cells.specs.declared.Colour.the-variants.{Blue, White}
 use Rattle.cells.specs.Memory.{Cells, Sound, at}
 use Rattle.bags.specs.Holding.{Hold, putInto}
 use Rattle.rules.specs.declared.Collector.{Collector}
-use Rattle.rules.specs.State.{Task, State, withFree}
+use Rattle.rules.specs.State.{Task, State, withCells, withFree}
 use Rattle.rules.specs.SettingUp.{blank, rising, begun, resting}
-use Rattle.symbols.specs.Laying.{withCells, firstColour, laying, laidTo}
+use Rattle.symbols.specs.Laying.{firstColour, laying, laidTo}
 
 abbrev laid : State → (ℕ → Colour) → (ℕ → ℕ → Option ℕ) → Hold → State
 laid s colour link free = withFree (withCells s (record { size = s .cells .size; colour = colour; link = link })) free

@@ -8,11 +8,9 @@ use Rattle.cells.specs.declared.Colour.{Colour}
 use Rattle.cells.specs.declared.Colour.the-variants.{Blue, White}
 use Rattle.cells.specs.Memory.{Cells, at, coloured, linked}
 use Rattle.bags.specs.Holding.{putInto}
-use Rattle.rules.specs.State.{State, withFree}
+use Rattle.rules.specs.State.{State, withCells, withFree}
+use Rattle.rules.specs.Makings.{unlinked}
 use Rattle.rules.specs.SettingUp.{rising}
-
-abbrev pub withCells : State → Cells → State
-withCells s m = record { cells = m; links = s .links; free = s .free; cache = s .cache; directory = s .directory; tasks = s .tasks; collector = s .collector }
 
 -- link i of cell x is set empty
 abbrev pub emptyingLink : State → ℕ → ℕ → State
@@ -22,16 +20,13 @@ emptyingLink s x i = withCells s (linked (s .links) (s .cells) x i None)
 abbrev pub emptiedTo : Cells → ℕ → ℕ → Cells
 emptiedTo m x k = record { size = m .size; colour = m .colour; link = at x (λ i. cond (ltb i k) None (m .link x i)) (m .link) }
 
-abbrev pub emptied : Cells → ℕ → Cells
-emptied m x = record { size = m .size; colour = m .colour; link = at x (λ i. None) (m .link) }
-
 -- the colour of cell c as it begins beside d directory cells
 abbrev pub firstColour : ℕ → ℕ → Colour
 firstColour d c = cond (ltb c d) White Blue
 
 -- cell x is laid out
 abbrev pub laying : State → ℕ → ℕ → State
-laying s d x = withFree (withCells s (coloured (emptied (s .cells) x) x (firstColour d x))) (cond (ltb x d) (s .free) (putInto (s .free) x))
+laying s d x = withFree (withCells s (coloured (unlinked (s .cells) x) x (firstColour d x))) (cond (ltb x d) (s .free) (putInto (s .free) x))
 
 -- the cells 0 to k − 1 are laid out
 abbrev pub laidTo : State → ℕ → ℕ → State

@@ -2,7 +2,9 @@
 ghost use denote.Ref.{name};
 ghost use mathlib.Core.Path.{_≡_};
 ghost use Rattle.rules.specs.SettingUp.{fitBags, notSetUp, resting, setUp, setUpChecks};
-ghost use Rattle.symbols.specs.Laying.{emptied, emptyingLink, laying, withCells};
+ghost use Rattle.rules.specs.Makings.{unlinked};
+ghost use Rattle.rules.specs.State.{withCells};
+ghost use Rattle.symbols.specs.Laying.{emptyingLink, laying};
 ghost use Rattle.symbols.specs.Views.{stateOf, Becomes, Does};
 use super::parts::Symbols;
 use bags::Bag;
@@ -115,7 +117,7 @@ impl<'a, 'b, 'c, M: CellMemory, F: Bag, C: Bag> Symbols<'a, 'b, 'c, M, F, C> {
 
     // All links of cell x are emptied.
     fn empty_links(&mut self, x: u16)
-        ensures { λ _. ⌜ Becomes M·CellMemory F·Bag C·Bag (withCells (stateOf M·CellMemory F·Bag C·Bag (now (self .entry))) (emptied (stateOf M·CellMemory F·Bag C·Bag (now (self .entry)) .cells) x)) (now (self .entry)) (now (self .exit)) ⌝ }
+        ensures { λ _. ⌜ Becomes M·CellMemory F·Bag C·Bag (withCells (stateOf M·CellMemory F·Bag C·Bag (now (self .entry))) (unlinked (stateOf M·CellMemory F·Bag C·Bag (now (self .entry)) .cells) x)) (now (self .entry)) (now (self .exit)) ⌝ }
     {
         for i in 0..M::link_count() {
             self.empty_link(x, i);

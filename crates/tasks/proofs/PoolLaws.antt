@@ -9,7 +9,9 @@ use Rattle.std.proofs.shelf.Tests.{cond-true, lt-ltb}
 use Rattle.std.specs.declared.option.Option.{Option}
 use Rattle.std.specs.declared.option.Option.the-variants.{Some}
 use Rattle.bags.specs.Stacks.{stacked, stacked-length}
-use Rattle.tasks.specs.Parts.{grown, newest, older}
+use Rattle.rules.specs.Makings.{olderOf}
+use Rattle.rules.specs.State.{grown}
+use Rattle.tasks.specs.Parts.{newest}
 
 -- of a row whose count is held at four or below, and n the count
 module _ (row : List ℕ) (count n : ℕ) (told : n ≡ length (stacked row (min count 4))) where
@@ -28,5 +30,5 @@ module _ (row : List ℕ) (count n : ℕ) (told : n ≡ length (stacked row (min
     pub pool-gives : Some (getD row (n - 1) 0) ≡ newest (stacked row (min count 4))
     pool-gives = ap (λ k. newest (stacked row k)) (sym is-more)
 
-    pub pool-shrinks : stacked row (min (n - 1) 4) ≡ older (stacked row (min count 4))
-    pool-shrinks = ap (stacked row) (omega (arith, is-count)) ∙ ap (λ k. older (stacked row k)) (sym is-more)
+    pub pool-shrinks : stacked row (min (n - 1) 4) ≡ olderOf (stacked row (min count 4))
+    pool-shrinks = ap (stacked row) (omega (arith, is-count)) ∙ ap (λ k. olderOf (stacked row k)) (sym is-more)

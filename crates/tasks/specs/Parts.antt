@@ -11,7 +11,8 @@ use mathlib.Core.Bool.{cond}
 use Rattle.bags.specs.Stacks.{stacked}
 use Rattle.rules.specs.declared.Refusal.{Refusal}
 use Rattle.rules.specs.declared.Refusal.the-variants.{NoTask, WorkUnfinished}
-use Rattle.rules.specs.State.{Task, withPool, isIdle}
+use Rattle.rules.specs.State.{Task, grown, inSlot, isIdle, withPool}
+use Rattle.rules.specs.Makings.{olderOf}
 use Rattle.tasks.specs.declared.parts.Pool.{Pool}
 use Rattle.tasks.specs.declared.parts.Task.{Task as TaskPart}
 use Rattle.tasks.specs.declared.parts.Tasks.{Tasks}
@@ -34,27 +35,17 @@ abbrev pub idleIn : Option TaskPart → Result TaskPart Refusal
 idleIn None = Err NoTask
 idleIn (Some t) = cond (isIdle (t .work)) (Ok t) (Err WorkUnfinished)
 
--- a pool with one cell more, where it has a place
-abbrev pub grown : List ℕ → ℕ → List ℕ
-grown pool x = cond (ltb (length pool) 4) (x ∷ pool) pool
-
--- the last added cell of a pool, and the others
+-- the last added cell of a pool
 abbrev pub newest : List ℕ → Option ℕ
 newest [] = None
 newest (x ∷ xs) = Some x
 
-abbrev pub older : List ℕ → List ℕ
-older [] = []
-older (x ∷ xs) = xs
-
 abbrev pub withGrown : Option Task → ℕ → Option Task
-withGrown None x = None
-withGrown (Some t) x = Some (withPool t (grown (t .pool) x))
+withGrown o x = inSlot (λ t. withPool t (grown (t .pool) x)) o
 
 abbrev pub newestIn : Option Task → Option ℕ
 newestIn None = None
 newestIn (Some t) = newest (t .pool)
 
 abbrev pub withOlder : Option Task → Option Task
-withOlder None = None
-withOlder (Some t) = Some (withPool t (older (t .pool)))
+withOlder o = inSlot (λ t. withPool t (olderOf (t .pool))) o

@@ -6,8 +6,10 @@ ghost use lib.ListN.{getD, set, length};
 ghost use Rattle.std.specs.declared.option.Option.the-variants.{None};
 ghost use Rattle.bags.specs.Stacks.{stacked};
 ghost use Rattle.cells.specs.Memory.{at};
+ghost use Rattle.rules.specs.Makings.{olderOf};
+ghost use Rattle.rules.specs.State.{grown};
 ghost use Rattle.rules.specs.Tasks.{newTask, withHeld};
-ghost use Rattle.tasks.specs.Parts.{taskOf, slotOf, tasksOf, poolOf, idleIn, grown, newest, older, withGrown, newestIn, withOlder};
+ghost use Rattle.tasks.specs.Parts.{taskOf, slotOf, tasksOf, poolOf, idleIn, newest, withGrown, newestIn, withOlder};
 use rules::Refusal;
 use rules::Status;
 
@@ -49,7 +51,7 @@ impl Pool {
     // The last added cell, which the pool loses.
     pub fn take(&mut self) -> Option<u16>
         ensures answer { λ r. ⌜ r ≡ newest (poolOf (now (self .entry))) ⌝ }
-        ensures after { λ _. ⌜ poolOf (now (self .exit)) ≡ older (poolOf (now (self .entry))) ⌝ }
+        ensures after { λ _. ⌜ poolOf (now (self .exit)) ≡ olderOf (poolOf (now (self .entry))) ⌝ }
     {
         let count = self.len();
         if count == 0 {

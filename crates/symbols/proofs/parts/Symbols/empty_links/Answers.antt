@@ -1,7 +1,7 @@
 use mathlib.Core.Path.{_≡_, ap, _∙_}
 use native.Mathlib.Omega.{arith}
-use Rattle.rules.specs.State.{State}
-use Rattle.symbols.specs.Laying.{emptyingLink, withCells}
+use Rattle.rules.specs.State.{State, withCells}
+use Rattle.symbols.specs.Laying.{emptyingLink}
 use Rattle.symbols.specs.Views.{stateOf}
 use Rattle.symbols.proofs.Emptying.{one-emptied}
 use Rattle.symbols.proofs.Loans.{same-then}

@@ -1,4 +1,5 @@
-use Rattle.symbols.specs.Laying.{emptiedTo, withCells}
+use Rattle.rules.specs.State.{withCells}
+use Rattle.symbols.specs.Laying.{emptiedTo}
 use Rattle.symbols.specs.Views.{stateOf, Becomes}
 use Rattle.symbols.proofs.parts.Symbols.empty_links.Given as given
 

@@ -7,10 +7,10 @@ use lib.Dec.{eqb}
 use Rattle.std.proofs.shelf.Tests.{cases-eq, cond-true, cond-false, eq-eqb, ne-eqb}
 use Rattle.std.specs.declared.option.Option.{Option}
 use Rattle.std.specs.declared.result.Result.{Result}
-use Rattle.std.specs.declared.result.Result.the-variants.{Ok, Err}
+use Rattle.std.specs.declared.result.Result.the-variants.{Ok}
 use Rattle.cells.specs.Memory.{at}
 use Rattle.rules.specs.declared.Refusal.{Refusal}
-use Rattle.rules.specs.State.{Task, State, Outcome, refused, by, withTask}
+use Rattle.rules.specs.State.{Task, State, Outcome, by, withTask}
 
 pub at-here : {A : Type 0} (i : ℕ) (x : A) (f : ℕ → A) → at i x f i ≡ x
 at-here i x f = cond-true (eqb i i) x (f i) (eq-eqb i i refl)
@@ -30,15 +30,9 @@ at-as-it-was i x f e = fun-ext (λ k. ⊎-elim
 abbrev with : State → (ℕ → Option Task) → State
 with s ts = record { cells = s .cells; links = s .links; free = s .free; cache = s .cache; directory = s .directory; tasks = ts; collector = s .collector }
 
-pub task-again : (s : State) (m : ℕ) (t u : Option Task) → withTask (withTask s m t) m u ≡ withTask s m u
-task-again s m t u = ap (with s) (at-again m t u (s .tasks))
-
 pub task-as-it-was : (s : State) (m : ℕ) (t : Option Task) → s .tasks m ≡ t → withTask s m t ≡ s
 task-as-it-was s m t e = ap (with s) (at-as-it-was m t (s .tasks) e)
 
--- a call whose checks passed, and one whose checks failed
+-- a call whose checks passed
 pub passed : {A : Type 0} (s : State) (checks : Result A Refusal) (done : A → Outcome) (x : A) → Ok x ≡ checks → done x ≡ by s checks done
 passed s checks done x e = ap (λ c. by s c done) e
-
-pub failed : {A : Type 0} (s : State) (checks : Result A Refusal) (done : A → Outcome) (e : Refusal) → Err e ≡ checks → refused e s ≡ by s checks done
-failed s checks done e f = ap (λ c. by s c done) f

@@ -1,2 +1,1 @@
 pub mod PoolLaws
-pub mod Idle

@@ -1,6 +1,6 @@
--- What an accepted set up leaves: every promise holds at the first moment of a run, but for what is still to come.
+-- The invariant holds of what an accepted set up leaves.
 use mathlib.Core.Path.{_≡_, refl, sym, ap, subst, _∙_}
-use mathlib.Core.Logic.{_⊎_, inl, inr, ⊎-elim}
+use mathlib.Core.Logic.{_⊎_, _≢_, inl, inr, ⊎-elim}
 use mathlib.Core.Bool.{Bool, true, false, cond, not, _&&_}
 use mathlib.Core.List.{List, [], _∷_}
 use Prim.Native.Nat.{ℕ, zero, suc, _+_, _-_, _<_, _≤_}
@@ -14,17 +14,21 @@ use Rattle.std.specs.declared.option.Option.the-variants.{Some, None}
 use Rattle.std.specs.declared.result.Result.{Result}
 use Rattle.std.specs.declared.result.Result.the-variants.{Ok, Err}
 use Rattle.cells.specs.declared.Colour.{Colour}
-use Rattle.cells.specs.declared.Colour.the-variants.{Blue, White}
+use Rattle.cells.specs.declared.Colour.the-variants.{Blue, White, Black}
+use Rattle.cells.specs.Memory.{Sound as SoundMemory}
+use Rattle.rules.specs.declared.Stage.{Stage}
+use Rattle.rules.specs.declared.Stage.the-variants.{Rest, Clear, Mark, Scan, Sweep}
 use Rattle.bags.specs.Holding.{Hold, Fair, Sound as SoundBag, one, copies, holding, hasRoom, hasMember, putInto}
 use Rattle.rules.specs.declared.Refusal.{Refusal}
-use Rattle.rules.specs.State.{State, Outcome, accepted, refused, need, by}
+use Rattle.rules.specs.State.{Task, State, Outcome, accepted, by}
 use Rattle.rules.specs.SettingUp.{blank, rising, begun, fitBags, setUp, setUpChecks}
-use Rattle.rules.specs.Reach.{InReach, Root, directory, register, making, Names, start, along}
-use Rattle.rules.specs.Law.{JustSetUp, NoneFreed, HeldOnce}
+use Rattle.rules.specs.Reach.{Names}
+use Rattle.rules.specs.Law.{JustSetUp}
 use Rattle.rules.proofs.Checked.{need-passed}
-use Rattle.rules.proofs.Numbers.{none-of}
 use Rattle.rules.proofs.Ways.{reached-have}
-use Rattle.rules.proofs.Accounts.{Account, blueness, held-once}
+use Rattle.rules.proofs.Accounts.{Account, blueness}
+use Rattle.rules.proofs.Words.{Made, made-by, isShaded, Shaded, UsedRoot, directory, register, kept, filled, Used, Busy, in-hand, in-cache, FirstHalf, SecondHalf, mark, scan}
+use Rattle.rules.proofs.Invariant.{Structure, Control, Works, NewCells, Sweeps, MarksSecond, Invariant}
 
 -- what the checks of a set up found
 pub record Fits (b : State) (d : ℕ) : Type 0 where
@@ -81,7 +85,7 @@ module _ (h : Hold) (sound : SoundBag h) (empty : length (h .members) ≡ 0) (d 
       let before = rising-copies k (omega arith) c in
       let more = rising-fair k .added-copies (rising h d k .members) (d + k) c in
       let is : copies (rising h d (suc k) .members) c ≡ one (d + k) c + copies (rising h d k .members) c =
-          ap (λ (x : Hold). copies (x .members) c) (rising-step k few (rising-count k (omega arith))) ∙ more in
+      ap (λ (x : Hold). copies (x .members) c) (rising-step k few (rising-count k (omega arith))) ∙ more in
       is ∙ grind (arith, tells)
 
 blank-told : (n d c : ℕ) → d ≤ n → cond (leb d c && ltb c (d + (n - d))) 1 0 ≡ blueness (blank n d .colour c)
@@ -90,40 +94,142 @@ blank-told n d c le =
     ap (λ k. cond (leb d c && ltb c k) 1 0) all
     ∙ elim (leb d c && ltb c n) as (λ b. cond b 1 0 ≡ blueness (cond b Blue White)) [ true ↦ refl | false ↦ refl ]
 
-module _ (s : State) (began : JustSetUp s) where
-  pub is-begun : (s ≡ begun (began .before) (began .d)) × Fits (began .before) (began .d)
-  is-begun = begun-by (began .before) s (began .d) (began .accepts)
+blank-colour : (n d c : ℕ) → (blank n d .colour c ≡ Blue) ⊎ (blank n d .colour c ≡ White)
+blank-colour n d c = elim (leb d c && ltb c n) as (λ b. (cond b Blue White ≡ Blue) ⊎ (cond b Blue White ≡ White)) [ true ↦ inl refl | false ↦ inr refl ]
 
-  account-begun : Account (begun (began .before) (began .d))
+module _ (b : State) (d : ℕ) (fit : Fits b d) (memory : SoundMemory (b .links) (b .cells)) (links : 1 ≤ b .links) (free : SoundBag (b .free)) (cache : SoundBag (b .cache)) where
+  no-tasks : {A : Type 0} {t : Task} → None ≡ Some t → A
+  no-tasks e = let z : _≡_ {A = ℕ} 0 1 = cc in absurd (omega arith)
+
+  no-links : {A : Type 0} {c : ℕ} → None ≡ Some c → A
+  no-links e = let z : _≡_ {A = ℕ} 0 1 = cc in absurd (omega arith)
+
+  nothing-made : {x : ℕ} → ¬ (Made (begun b d) x)
+  nothing-made (made-by m settled p q) = no-tasks p
+
+  not-shaded : (x : ℕ) → ¬ (Shaded (begun b d) x)
+  not-shaded x e = ⊎-elim
+      (λ (q : blank (b .cells .size) d .colour x ≡ Blue). let f : false ≡ true = sym (ap isShaded q) ∙ e in let z : _≡_ {A = ℕ} 0 1 = cc in omega arith)
+      (λ (q : blank (b .cells .size) d .colour x ≡ White). let f : false ≡ true = sym (ap isShaded q) ∙ e in let z : _≡_ {A = ℕ} 0 1 = cc in omega arith)
+      (blank-colour (b .cells .size) d x)
+
+  not-black : (x : ℕ) → blank (b .cells .size) d .colour x ≢ Black
+  not-black x e = not-shaded x (ap isShaded e)
+
+  empty : length (b .free .members) ≡ 0
+  empty = let bags = fit .bags in grind (arith, tells)
+
+  cache-empty : length (b .cache .members) ≡ 0
+  cache-empty = let bags = fit .bags in grind (arith, tells)
+
+  free-room : b .cells .size - d ≤ b .free .room
+  free-room = let bags = fit .bags in grind (arith, tells)
+
+  cache-room : 0 < b .cache .room
+  cache-room = let bags = fit .bags in grind (arith, tells)
+
+  account-begun : Account (begun b d)
   account-begun c =
-      let fit = is-begun .1 in
-      let bags = fit .bags in
-      let empty : length (began .before .free .members) ≡ 0 = grind (arith, tells) in
-      let room : began .before .cells .size - began .d ≤ began .before .free .room = grind (arith, tells) in
-      let held = rising-copies (began .before .free) (began .free) empty (began .d) (began .before .cells .size - began .d) room c in
-      let told = blank-told (began .before .cells .size) (began .d) c (fit .within) in
+      let held = rising-copies (b .free) free empty d (b .cells .size - d) free-room c in
+      let told = blank-told (b .cells .size) d c (fit .within) in
       omega arith
 
-  pub begins-held-once : HeldOnce s
-  begins-held-once =
-      subst HeldOnce (sym (is-begun .0)) (held-once (begun (began .before) (began .d)) account-begun (λ c g. grind (arith, tells)))
+  blank-sound : SoundMemory (b .links) (blank (b .cells .size) d)
+  blank-sound = record { small = memory .small; within = λ c i. tt; no-cell = λ c g. grind (arith, tells); no-link = λ c i e. refl }
 
-  -- only the directory is in reach, and it is White
-  reach-begun : (c : ℕ) → InReach (begun (began .before) (began .d)) c → c < began .d
-  reach-begun c = reached-have (λ x. x < began .d) roots edges
+  -- only the directory can be touched
+  used-begun : (c : ℕ) → Used (begun b d) c → c < d
+  used-begun c = reached-have (λ x. x < d) roots edges
     where
-      roots : (x : ℕ) → Root (begun (began .before) (began .d)) x → x < began .d
+      roots : (x : ℕ) → UsedRoot (begun b d) x → x < d
       roots x (directory l) = l
-      roots x (register m j p q) = let z : _≡_ {A = ℕ} 0 1 = cc in absurd (omega arith)
-      roots x (making m settled p q) = let z : _≡_ {A = ℕ} 0 1 = cc in absurd (omega arith)
+      roots x (register m j p q) = no-tasks p
+      roots x (kept k) = absurd (not-shaded x (k .0))
+      roots x (filled i k e) = no-links e
 
-      edges : (x y : ℕ) → Names (begun (began .before) (began .d) .cells) x y → x < began .d → y < began .d
-      edges x y (i, e) l = let z : _≡_ {A = ℕ} 0 1 = cc in absurd (omega arith)
+      edges : (x y : ℕ) → Names (begun b d .cells) x y → x < d → y < d
+      edges x y (i, e) l = no-links e
 
-  pub begins-none-freed : NoneFreed s
-  begins-none-freed =
-      subst NoneFreed (sym (is-begun .0)) (none-of _ (began .before .cells .size) (λ c l p.
-      let near = reach-begun c (p .0) in
-      let white : blank (began .before .cells .size) (began .d) .colour c ≡ White = grind (arith, tells) in
-      let blue = p .1 in
-      let z : _≡_ {A = ℕ} 0 1 = cc in omega arith))
+  nothing-traced : ¬ (Busy (begun b d))
+  nothing-traced (in-hand h) = h refl
+  nothing-traced (in-cache l) = omega (arith, cache-empty)
+
+  no-member : (c : ℕ) → ¬ (0 < copies (b .cache .members) c)
+  no-member c l = omega (arith, no-copies (b .free) free empty d (b .cache .members) cache-empty c)
+
+  pub begins : Invariant (begun b d)
+  begins =
+      let keeps = rising-manner (b .free) free empty d (b .cells .size - d) in
+      record {
+        structure = record {
+          some = fit .first;
+          within = fit .within;
+          memory = blank-sound;
+          links = links;
+          free-fair = subst Fair (sym (keeps .0)) (free .fair);
+          cache-fair = cache .fair;
+          free-room = omega (arith, keeps .1, free-room, fit .within);
+          cache-room = cache-room;
+          slots = λ m g. refl;
+          registers = λ m j t p g. no-tasks p;
+          pools = λ m t p. no-tasks p;
+          account = account-begun;
+        };
+        control = record {
+          rest = λ e. (refl, refl, refl);
+          clear = λ e. let z : _≡_ {A = ℕ} 0 1 = cc in absurd (omega arith);
+          mark = λ e. let z : _≡_ {A = ℕ} 0 1 = cc in absurd (omega arith);
+          mark-statuses = λ e. let z : _≡_ {A = ℕ} 0 1 = cc in absurd (omega arith);
+          scan = λ e. let z : _≡_ {A = ℕ} 0 1 = cc in absurd (omega arith);
+          scan-place = λ e. let z : _≡_ {A = ℕ} 0 1 = cc in absurd (omega arith);
+          sweep = λ e. let z : _≡_ {A = ℕ} 0 1 = cc in absurd (omega arith);
+          sweep-place = λ e. let z : _≡_ {A = ℕ} 0 1 = cc in absurd (omega arith);
+          unscanned = λ n. refl;
+          nothing-traced = λ n k. nothing-traced;
+          statuses = λ m t p. no-tasks p;
+          scan-looked = λ e u k q. let z : _≡_ {A = ℕ} 0 1 = cc in absurd (omega arith);
+        };
+        works = record {
+          cell-held = λ m x i y step t p q. no-tasks p;
+          value-held = λ m x i c step t p q. no-tasks p;
+          link-there = λ m x i y step t p q. no-tasks p;
+          grey-step = λ m x i y t p q. no-tasks p;
+          warn-step = λ m x i old y t p q. no-tasks p;
+          made-apart = λ x k. absurd (nothing-made k);
+          made-once = λ m k x a c t u p q r w. no-tasks p;
+        };
+        safe = λ c u.
+            let near = used-begun c u in
+            let white : blank (b .cells .size) d .colour c ≡ White = grind (arith, tells) in
+            (omega (arith, fit .within), λ blue. let z : _≡_ {A = ℕ} 0 1 = cc in omega arith, nothing-made);
+        new-cells = record {
+          unsettled = λ m x t p q n. no-tasks p;
+          settled = λ m x t p q n. no-tasks p;
+          in-mark = λ m x a t p q e g. no-tasks p;
+          in-scan = λ m x a t p q e g. no-tasks p;
+        };
+        sweeps = record {
+          cached = λ c l. absurd (no-member c l);
+          in-hand = λ h e. let z : _≡_ {A = ℕ} 0 1 = cc in absurd (omega arith);
+          rest-black = λ e x q. absurd (not-black x q);
+          clear-black = λ e x q. absurd (not-black x q);
+          behind = λ e x w q. absurd (not-black x q);
+          ahead-used = λ e x u q. let z : _≡_ {A = ℕ} 0 1 = cc in absurd (omega arith);
+          ahead-made = λ e x k q. absurd (nothing-made k);
+          new-value = λ m x i c t p q n. no-tasks p;
+          directory = λ e c l h. let z : _≡_ {A = ℕ} 0 1 = cc in absurd (omega arith);
+        };
+        first-half = λ h. let e = h .0 in let z : _≡_ {A = ℕ} 0 1 = cc in absurd (omega arith);
+        Cut = λ x i. ⊥;
+        second-half = rests;
+      }
+    where
+      rests : SecondHalf (begun b d) → MarksSecond (begun b d) (λ x i. ⊥)
+      rests (mark e n) = let z : _≡_ {A = ℕ} 0 1 = cc in absurd (omega arith)
+      rests (scan e) = let z : _≡_ {A = ℕ} 0 1 = cc in absurd (omega arith)
+
+-- of a memory just set up
+pub just-begun : (s : State) → JustSetUp s → Invariant s
+just-begun s began =
+    let found = begun-by (began .before) s (began .d) (began .accepts) in
+    subst Invariant (sym (found .0)) (begins (began .before) (began .d) (found .1) (began .memory) (began .few .0) (began .free) (began .cache))

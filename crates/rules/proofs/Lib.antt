@@ -4,4 +4,7 @@ pub mod Worked
 pub mod Numbers
 pub mod Ways
 pub mod Accounts
+pub mod Words
+pub mod Invariant
+pub mod Moments
 pub mod Beginning

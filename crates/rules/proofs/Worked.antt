@@ -2,12 +2,13 @@
 use mathlib.Core.Path.{_≡_, refl, sym, ap, _∙_}
 use mathlib.Core.Bool.{Bool, true, false, cond, _&&_, _||_}
 use mathlib.Core.List.{List, [], _∷_}
-use Prim.Native.Nat.{ℕ, _+_, _<_, _≤_}
+use Prim.Native.Nat.{ℕ, zero, suc, _+_, _<_, _≤_}
 use native.Mathlib.Omega.{arith}
 use lib.Dec.{ltb, leb}
 use lib.ListN.{length}
 use Rattle.std.proofs.shelf.Ways.{tells}
 use Rattle.std.proofs.shelf.Tests.{cond-true, cond-false}
+use Rattle.std.specs.declared.option.Option.the-variants.{Some}
 use Rattle.std.specs.declared.result.Result.{Result}
 use Rattle.std.specs.declared.result.Result.the-variants.{Ok, Err}
 use Rattle.cells.specs.Stretch.{cellsInBytes}
@@ -21,7 +22,7 @@ use Rattle.rules.specs.SettingUp.{begun, fitBags, setUp, setUpChecks}
 use Rattle.rules.specs.Greying.{isBlack}
 use Rattle.rules.specs.Collecting.{blacken, overflowed}
 use Rattle.bags.specs.Holding.{hasRoom}
-use Rattle.rules.specs.Examples.{WorkedExamples}
+use Rattle.rules.specs.Examples.{WorkedExamples, firstReturn, loop}
 
 set-up-accepted : (s : State) (d : ℕ) → 0 < s .cells .size → s .cells .size ≤ 4096 → 0 < d → d ≤ 64 → d ≤ s .cells .size → fitBags s d ≡ true → setUp d s ≡ accepted 0 (begun s d)
 set-up-accepted s d some few first most within fit =
@@ -42,6 +43,18 @@ overflow : (s : State) (v : ℕ) (p : Scanned) → isBlack (s .cells .colour v) 
 overflow s v p colour full place =
     ap (λ (x : State). x .collector .dirty) (cond-false _ _ _ colour ∙ cond-false _ _ _ full) ∙ ap (λ q. overflowed v q (s .collector .dirty)) place
 
+cycle-turns : (L : ℕ) → 1 ≤ L → L ≤ 8 → firstReturn 20 (loop L) ≡ Some (12 + L)
+cycle-turns zero some few = absurd (omega arith)
+cycle-turns (suc zero) some few = refl
+cycle-turns (suc (suc zero)) some few = refl
+cycle-turns (suc (suc (suc zero))) some few = refl
+cycle-turns (suc (suc (suc (suc zero)))) some few = refl
+cycle-turns (suc (suc (suc (suc (suc zero))))) some few = refl
+cycle-turns (suc (suc (suc (suc (suc (suc zero)))))) some few = refl
+cycle-turns (suc (suc (suc (suc (suc (suc (suc zero))))))) some few = refl
+cycle-turns (suc (suc (suc (suc (suc (suc (suc (suc zero)))))))) some few = refl
+cycle-turns (suc (suc (suc (suc (suc (suc (suc (suc (suc k))))))))) some few = absurd (omega arith)
+
 pub worked-examples : WorkedExamples
 worked-examples = record {
   cells-4096 = λ s d size first most fit. set-up-accepted s d (omega arith) (omega arith) first most (omega arith) fit;
@@ -61,6 +74,7 @@ worked-examples = record {
   warn-at = λ dirty. refl;
   overflow-at = λ s colour full place. overflow s 3 (ScannedAt 3) colour full place;
   overflow-passed = λ s colour full place. overflow s 3 (ScannedAt 4) colour full place;
+  cycle = cycle-turns;
   cycle-board = refl;
   cycle-bytes = refl;
   twelve-bytes = λ bytes size. omega arith;

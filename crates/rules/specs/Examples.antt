@@ -78,7 +78,8 @@ pub record WorkedExamples : Type 0 where
   -- blackening cell 3 while the cache is full
   pub overflow-at : (s : State) → isBlack (s .cells .colour 3) ≡ false → hasRoom (s .cache) ≡ false → s .collector .scanned ≡ ScannedAt 3 → blacken s 3 .collector .dirty ≡ s .collector .dirty
   pub overflow-passed : (s : State) → isBlack (s .cells .colour 3) ≡ false → hasRoom (s .cache) ≡ false → s .collector .scanned ≡ ScannedAt 4 → blacken s 3 .collector .dirty ≡ true
-  -- a cycle of 12 + L turns
+  -- a cycle of 12 + L turns, so 16 on board and 14 on byte memory
+  pub cycle : (L : ℕ) → 1 ≤ L → L ≤ 8 → firstReturn 20 (loop L) ≡ Some (12 + L)
   pub cycle-board : firstReturn 20 (loop 4) ≡ Some 16
   pub cycle-bytes : firstReturn 20 (loop 2) ≡ Some 14
   -- the byte layout

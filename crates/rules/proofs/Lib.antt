@@ -5,6 +5,9 @@ pub mod Numbers
 pub mod Ways
 pub mod Accounts
 pub mod Words
+pub mod Remade
+pub mod Slots
 pub mod Invariant
 pub mod Moments
 pub mod Beginning
+pub mod Idling

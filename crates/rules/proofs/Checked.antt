@@ -6,11 +6,13 @@ use Prim.Native.Nat.{ℕ, _<_}
 use native.Mathlib.Omega.{arith}
 use lib.Dec.{ltb}
 use lib.ListN.{length}
+use Rattle.std.proofs.shelf.Ways.{tells}
 use Rattle.std.proofs.shelf.Tests.{cases-bool, cond-true, cond-false, ltb-true}
 use Rattle.std.specs.declared.option.Option.{Option}
 use Rattle.std.specs.declared.option.Option.the-variants.{Some, None}
 use Rattle.std.specs.declared.result.Result.{Result}
 use Rattle.std.specs.declared.result.Result.the-variants.{Ok, Err}
+use Rattle.rules.specs.declared.Work.{Work}
 use Rattle.rules.specs.declared.Refusal.{Refusal}
 use Rattle.rules.specs.declared.Refusal.the-variants.{NoTask}
 use Rattle.rules.specs.State.{Task, need, hasSlot, isIdle, ofIdleTask}
@@ -64,3 +66,10 @@ give-back-checked d tasks m k e =
     let slot = need-passed (hasSlot d m) _ _ k e in
     let found = idle-passed (tasks m) _ k (slot .1) in
     record { task = found .0; present = found .1 .0; many = ok-same (found .1 .2) }
+
+pub below-eight : (d m : ℕ) → hasSlot d m ≡ true → m < 8
+below-eight d m e = grind (arith, tells)
+
+pub is-idle : (w : Option Work) → isIdle w ≡ true → w ≡ None
+is-idle None e = refl
+is-idle (Some w) e = let z : _≡_ {A = ℕ} 0 1 = cc in absurd (omega arith)

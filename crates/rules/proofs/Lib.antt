@@ -11,3 +11,4 @@ pub mod Invariant
 pub mod Moments
 pub mod Beginning
 pub mod Idling
+pub mod TaskTurns

@@ -1,4 +1,5 @@
--- A turn that leaves another task without unfinished work in a slot, or none, keeps the invariant.
+-- A turn that leaves another task without unfinished work in a slot, or none, keeps the invariant, if free list and pool hold
+-- together what they held.
 use mathlib.Core.Path.{_≡_, refl, sym, ap, subst, _∙_}
 use mathlib.Core.Logic.{_⊎_, _≢_, inl, inr, ⊎-elim}
 use mathlib.Core.Bool.{Bool, true, false}
@@ -8,14 +9,14 @@ use lib.ListN.{length}
 use Rattle.std.specs.declared.option.Option.{Option}
 use Rattle.std.specs.declared.option.Option.the-variants.{Some, None}
 use Rattle.cells.specs.Memory.{at}
-use Rattle.bags.specs.Holding.{copies}
+use Rattle.bags.specs.Holding.{Hold, Fair, copies}
 use Rattle.rules.specs.declared.Status.the-variants.{Async}
 use Rattle.rules.specs.declared.Work.{Work}
-use Rattle.rules.specs.State.{Task, State, withTask}
+use Rattle.rules.specs.State.{Task, State, withFree, withTask}
 use Rattle.rules.specs.Reach.{From, start, along, Names}
 use Rattle.rules.specs.Pools.{poolIn}
 use Rattle.rules.proofs.Ways.{lead-into}
-use Rattle.rules.proofs.Slots.{at-cases, at-other, pooled-same}
+use Rattle.rules.proofs.Slots.{at-cases, at-other, pooled-swap}
 use Rattle.rules.proofs.Words.{MadeBy, made-by, Made, Kept, Used, UsedRoot, directory, register, kept, filled, FirstHalf, SecondHalf, mark, scan, Marked}
 use Rattle.rules.proofs.Remade.{kept-on, marked-on}
 use Rattle.rules.proofs.Invariant.{Structure, Control, Works, NewCells, Sweeps, MarksFirst, MarksSecond, Invariant, Unsettled, taken}
@@ -32,7 +33,8 @@ pub record Fits (s : State) (I : Invariant s) (u : Task) : Type 0 where
 module _ (s : State) (I : Invariant s) (m : ℕ) (within : m < 8) (o : Option Task)
     (was-idle : (t : Task) → s .tasks m ≡ Some t → t .work ≡ None)
     (fits : (u : Task) → o ≡ Some u → Fits s I u)
-    (same-pool : poolIn o ≡ poolIn (s .tasks m)) where
+    (h : Hold) (manner : h .manner ≡ s .free .manner) (room : h .room ≡ s .free .room)
+    (together : (c : ℕ) → copies (h .members) c + copies (poolIn o) c ≡ copies (s .free .members) c + copies (poolIn (s .tasks m)) c) where
   no-work : {A : Type 0} {w : Work} (t : Task) → t .work ≡ None → t .work ≡ Some w → A
   no-work t p q = let z : _≡_ {A = ℕ} 0 1 = cc in absurd (omega arith)
 
@@ -58,7 +60,7 @@ module _ (s : State) (I : Invariant s) (m : ℕ) (within : m < 8) (o : Option Ta
   made-back x (made-by k b {t} p q) = made-by k b (works-on k t _ p q) q
 
   abbrev s′ : State
-  s′ = withTask s m o
+  s′ = withFree (withTask s m o) h
 
   keep-on : {x : ℕ} → Kept s x → Kept s′ x
   keep-on = kept-on (s .cells) (s .cache) (s .collector) (s .directory) (Made s) (Made s′) made-back
@@ -99,9 +101,9 @@ module _ (s : State) (I : Invariant s) (m : ℕ) (within : m < 8) (o : Option Ta
         within = S .within;
         memory = S .memory;
         links = S .links;
-        free-fair = S .free-fair;
+        free-fair = subst Fair (sym manner) (S .free-fair);
         cache-fair = S .cache-fair;
-        free-room = S .free-room;
+        free-room = omega (arith, room, S .free-room);
         cache-room = S .cache-room;
         slots = λ k g. at-other m o (s .tasks) k (λ e. omega arith) ∙ S .slots k g;
         registers = λ k j t p g. ⊎-elim (λ e. fits t (e .1) .few j g) (λ e. S .registers k j t (e .1) g) (at-cases m o (s .tasks) k (Some t) p);
@@ -109,7 +111,7 @@ module _ (s : State) (I : Invariant s) (m : ℕ) (within : m < 8) (o : Option Ta
           (λ (e : (k ≡ m) × (o ≡ Some t)). let none = ap taken (fits t (e .1) .idle) in omega (arith, fits t (e .1) .pool))
           (λ e. S .pools k t (e .1))
           (at-cases m o (s .tasks) k (Some t) p);
-        account = λ c. ap (λ k. copies (s .free .members) c + k) (pooled-same 8 m o (s .tasks) c (ap (λ xs. copies xs c) same-pool)) ∙ S .account c;
+        account = λ c. let swap = pooled-swap 8 m within o (s .tasks) c in let held = together c in let was = S .account c in omega arith;
       }
 
   still-control : Control s′
@@ -192,8 +194,8 @@ module _ (s : State) (I : Invariant s) (m : ℕ) (within : m < 8) (o : Option Ta
         warn-cut = λ k x i old y t p q. M .warn-cut k x i old y t (works-on k t _ p q) q;
       }
 
-  pub idle-turn : Invariant (withTask s m o)
-  idle-turn = record {
+  pub pool-turn : Invariant (withFree (withTask s m o) h)
+  pool-turn = record {
     structure = still-structure;
     control = still-control;
     works = still-works;
@@ -204,3 +206,8 @@ module _ (s : State) (I : Invariant s) (m : ℕ) (within : m < 8) (o : Option Ta
     Cut = I .Cut;
     second-half = still-second;
   }
+
+-- the same where the pool stays as it was
+pub idle-turn : (s : State) (I : Invariant s) (m : ℕ) → m < 8 → (o : Option Task) → ((t : Task) → s .tasks m ≡ Some t → t .work ≡ None)
+    → ((u : Task) → o ≡ Some u → Fits s I u) → poolIn o ≡ poolIn (s .tasks m) → Invariant (withTask s m o)
+idle-turn s I m within o was-idle fits same-pool = pool-turn s I m within o was-idle fits (s .free) refl refl (λ c. ap (λ xs. copies (s .free .members) c + copies xs c) same-pool)

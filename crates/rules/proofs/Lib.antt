@@ -12,3 +12,5 @@ pub mod Moments
 pub mod Beginning
 pub mod Idling
 pub mod TaskTurns
+pub mod Drawn
+pub mod PoolTurns

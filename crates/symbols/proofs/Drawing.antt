@@ -15,26 +15,9 @@ use Rattle.rules.specs.State.{Task, State, grown, withPool}
 use Rattle.rules.specs.Pools.{left, drawn, withDrawn, reserving}
 use Rattle.rules.proofs.States.{at-here, at-again, task-as-it-was}
 use Rattle.rules.proofs.Checked.{Reserves}
+use Rattle.rules.proofs.Drawn.{left-count, drawn-count}
 use Rattle.tasks.specs.Parts.{withGrown}
 use Rattle.symbols.specs.Moves.{drawing}
-
-left-manner : (k : ℕ) (h : Hold) → left k h .manner ≡ h .manner
-left-manner zero h = refl
-left-manner (suc k) h = cond-both (hasMember (left k h)) _ _ (λ (x : Hold). x .manner ≡ h .manner) (λ _. left-manner k h) (λ _. left-manner k h)
-
--- each take of a member leaves one less
-left-count : (k : ℕ) (h : Hold) → Fair (h .manner) → k ≤ length (h .members) → k + length (left k h .members) ≡ length (h .members)
-left-count zero h fair few = omega arith
-left-count (suc k) h fair few =
-    let before = left-count k h fair (omega arith) in
-    let some : 0 < length (left k h .members) = omega arith in
-    let one-less = subst Fair (sym (left-manner k h)) fair .rest-count (left k h .members) some in
-    let taken = ap (λ (x : Hold). length (x .members)) (cond-true (hasMember (left k h)) (holding (left k h) (left k h .manner .rest (left k h .members))) (left k h) (lt-ltb 0 _ some)) in
-    omega arith
-
-drawn-count : (k : ℕ) (h : Hold) (pool : List ℕ) → length (drawn k h pool) ≡ k + length pool
-drawn-count zero h pool = omega arith
-drawn-count (suc k) h pool = let before = drawn-count k h pool in omega arith
 
 drawn-none : (h : Hold) (o : Option Task) → withDrawn 0 h o ≡ o
 drawn-none h None = refl

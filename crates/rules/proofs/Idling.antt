@@ -17,7 +17,7 @@ use Rattle.rules.specs.Reach.{From, start, along, Names}
 use Rattle.rules.specs.Pools.{poolIn}
 use Rattle.rules.proofs.Ways.{lead-into}
 use Rattle.rules.proofs.Slots.{at-cases, at-other, pooled-swap}
-use Rattle.rules.proofs.Words.{MadeBy, made-by, Made, Kept, Used, UsedRoot, directory, register, kept, filled, FirstHalf, SecondHalf, mark, scan, Marked}
+use Rattle.rules.proofs.Words.{MadeBy, made-by, Made, Kept, Used, UsedRoot, directory, register, kept, filled, FirstHalf, SecondHalf, Marked}
 use Rattle.rules.proofs.Remade.{kept-on, marked-on}
 use Rattle.rules.proofs.Invariant.{Structure, Control, Works, NewCells, Sweeps, MarksFirst, MarksSecond, Invariant, Unsettled, taken}
 
@@ -85,10 +85,6 @@ module _ (s : State) (I : Invariant s) (m : ℕ) (within : m < 8) (o : Option Ta
           (at-cases m o (s .tasks) k (Some t) p)
       roots c (kept k) = start (kept (keep-back k))
       roots c (filled i k e) = start (filled i (made-back _ k) e)
-
-  second-back : SecondHalf s′ → SecondHalf s
-  second-back (mark e n) = mark e n
-  second-back (scan e) = scan e
 
   unsettled-on : (x : ℕ) → Unsettled s x → Unsettled s′ x
   unsettled-on x (k, (t, (p, q))) = (k, (t, (works-back k t _ p q, q)))
@@ -180,11 +176,10 @@ module _ (s : State) (I : Invariant s) (m : ℕ) (within : m < 8) (o : Option Ta
 
   still-second : SecondHalf s′ → MarksSecond s′ (I .Cut)
   still-second h =
-      let half = second-back h in
-      let M = I .second-half half in
+      let M = I .second-half h in
       record {
         closed = λ x i c k e. mark-on (M .closed x i c (mark-back k) e);
-        registers = λ k j c t p g q. ⊎-elim (λ e. mark-on (fits t (e .1) .marked half g j c q)) (λ e. mark-on (M .registers k j c t (e .1) g q)) (at-cases m o (s .tasks) k (Some t) p);
+        registers = λ k j c t p g q. ⊎-elim (λ e. mark-on (fits t (e .1) .marked h g j c q)) (λ e. mark-on (M .registers k j c t (e .1) g q)) (at-cases m o (s .tasks) k (Some t) p);
         filled = λ k x i c a t p g q e. mark-on (M .filled k x i c a t (works-on k t _ p q) g q e);
         directory = λ c l. mark-on (M .directory c l);
         cut-names = λ x i c k e. mark-on (M .cut-names x i c k e);

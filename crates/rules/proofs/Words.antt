@@ -100,11 +100,14 @@ Marked s = MarkedOf (s .cells) (s .cache) (s .collector) (s .directory) (Made s)
 
 -- what a task or the collector can touch next: the directory, registers, kept cells, what a cell being made names, and all that
 -- these lead to
-pub data UsedRoot (s : State) (c : ℕ) : Type 0 where
-  directory : c < s .directory → UsedRoot s c
-  register : (m j : ℕ) {t : Task} → s .tasks m ≡ Some t → t .registers j ≡ Some c → UsedRoot s c
-  kept : Kept s c → UsedRoot s c
-  filled : {x : ℕ} (i : ℕ) → Made s x → s .cells .link x i ≡ Some c → UsedRoot s c
+pub data UsedRootOf (m : Cells) (tasks : ℕ → Option Task) (d c : ℕ) : Type 0 where
+  directory : c < d → UsedRootOf m tasks d c
+  register : (k j : ℕ) {t : Task} → tasks k ≡ Some t → t .registers j ≡ Some c → UsedRootOf m tasks d c
+  kept : (isShaded (m .colour c) ≡ true) × (¬ (MadeBy tasks c)) → UsedRootOf m tasks d c
+  filled : {x : ℕ} (i : ℕ) → MadeBy tasks x → m .link x i ≡ Some c → UsedRootOf m tasks d c
+
+abbrev pub UsedRoot : State → ℕ → Type 0
+UsedRoot s = UsedRootOf (s .cells) (s .tasks) (s .directory)
 
 abbrev pub Used : State → ℕ → Type 0
 Used s = From (UsedRoot s) (Names (s .cells))
@@ -114,6 +117,9 @@ abbrev pub FirstHalf : State → Type 0
 FirstHalf s = (s .collector .stage ≡ Mark) × (s .collector .phase ≡ Sync1)
 
 -- the second half: every task has seen the marking begin
-pub data SecondHalf (s : State) : Type 0 where
-  mark : s .collector .stage ≡ Mark → s .collector .phase ≢ Sync1 → SecondHalf s
-  scan : s .collector .stage ≡ Scan → SecondHalf s
+pub data SecondHalfOf (co : Collector) : Type 0 where
+  mark : co .stage ≡ Mark → co .phase ≢ Sync1 → SecondHalfOf co
+  scan : co .stage ≡ Scan → SecondHalfOf co
+
+abbrev pub SecondHalf : State → Type 0
+SecondHalf s = SecondHalfOf (s .collector)

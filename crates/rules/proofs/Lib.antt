@@ -14,3 +14,4 @@ pub mod Idling
 pub mod TaskTurns
 pub mod Drawn
 pub mod PoolTurns
+pub mod Handshaking

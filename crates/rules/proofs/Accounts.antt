@@ -98,6 +98,6 @@ members-fit s account outside used m l =
     let all = members s account outside in
     let here = pooled-some 8 m (s .tasks) l in
     let bound = sum-bounded (s .cells .size) (s .directory) (λ c. copies (s .free .members) c + copiesPooled 8 (s .tasks) c)
-        (λ c. omega (arith, account c, blueness-most (s .cells .colour c)))
-        (λ c k. account c ∙ not-blue (s .cells .colour c) (used c k)) in
+    (λ c. omega (arith, account c, blueness-most (s .cells .colour c)))
+    (λ c k. account c ∙ not-blue (s .cells .colour c) (used c k)) in
     omega arith

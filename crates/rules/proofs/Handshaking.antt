@@ -22,7 +22,7 @@ use Rattle.rules.proofs.Words.{made-by, Traces, in-hand, in-cache, SecondHalfO
 use Rattle.rules.proofs.Invariant.{Structure, Control, Works, NewCells, Sweeps, MarksFirst, MarksSecond, Invariant}
 
 -- what does not look at the collector
-structure-same : (s : State) (co : Collector) → Structure s → Structure (withCollector s co)
+pub structure-same : (s : State) (co : Collector) → Structure s → Structure (withCollector s co)
 structure-same s co S = record {
   some = S .some;
   within = S .within;
@@ -38,7 +38,7 @@ structure-same s co S = record {
   account = S .account;
 }
 
-works-same : (s : State) (co : Collector) → Works s → Works (withCollector s co)
+pub works-same : (s : State) (co : Collector) → Works s → Works (withCollector s co)
 works-same s co W = record {
   cell-held = W .cell-held;
   value-held = W .value-held;
@@ -50,7 +50,7 @@ works-same s co W = record {
 }
 
 -- nor more than the hand
-traces-same : {a b : Collector} {cache : Hold} → b .hand ≡ a .hand → Traces b cache → Traces a cache
+pub traces-same : {a b : Collector} {cache : Hold} → b .hand ≡ a .hand → Traces b cache → Traces a cache
 traces-same e (in-hand h) = in-hand (λ q. h (e ∙ q))
 traces-same e (in-cache l) = in-cache l
 

@@ -104,9 +104,9 @@ module _ (s : State) (I : Invariant s) (m : ℕ) (within : m < 8) (o : Option Ta
         slots = λ k g. at-other m o (s .tasks) k (λ e. omega arith) ∙ S .slots k g;
         registers = λ k j t p g. ⊎-elim (λ e. fits t (e .1) .few j g) (λ e. S .registers k j t (e .1) g) (at-cases m o (s .tasks) k (Some t) p);
         pools = λ k t p. ⊎-elim
-          (λ (e : (k ≡ m) × (o ≡ Some t)). let none = ap taken (fits t (e .1) .idle) in omega (arith, fits t (e .1) .pool))
-          (λ e. S .pools k t (e .1))
-          (at-cases m o (s .tasks) k (Some t) p);
+            (λ (e : (k ≡ m) × (o ≡ Some t)). let none = ap taken (fits t (e .1) .idle) in omega (arith, fits t (e .1) .pool))
+            (λ e. S .pools k t (e .1))
+            (at-cases m o (s .tasks) k (Some t) p);
         account = λ c. let swap = pooled-swap 8 m within o (s .tasks) c in let held = together c in let was = S .account c in omega arith;
       }
 

@@ -15,3 +15,4 @@ pub mod TaskTurns
 pub mod Drawn
 pub mod PoolTurns
 pub mod Handshaking
+pub mod SweepingOn

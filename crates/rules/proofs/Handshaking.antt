@@ -54,6 +54,29 @@ pub traces-same : {a b : Collector} {cache : Hold} → b .hand ≡ a .hand → T
 traces-same e (in-hand h) = in-hand (λ q. h (e ∙ q))
 traces-same e (in-cache l) = in-cache l
 
+-- a turn of the collector alone that ends outside Mark and Scan leaves little to show
+pub quiet-turn : (s : State) → Invariant s → (co : Collector) → co .stage ≢ Mark → co .stage ≢ Scan → Control (withCollector s co) → Sweeps (withCollector s co) → Invariant (withCollector s co)
+quiet-turn s I co unmarked unscanned control sweeps = record {
+  structure = structure-same s co (I .structure);
+  control = control;
+  works = works-same s co (I .works);
+  safe = I .safe;
+  new-cells = record {
+    unsettled = I .new-cells .unsettled;
+    settled = I .new-cells .settled;
+    in-mark = λ m x a t p q e h. absurd (unmarked h);
+    in-scan = λ m x a t p q e h. absurd (unscanned h);
+  };
+  sweeps = sweeps;
+  first-half = λ h. absurd (unmarked (h .0));
+  Cut = I .Cut;
+  second-half = none;
+}
+  where
+    none : SecondHalfOf co → MarksSecond (withCollector s co) (I .Cut)
+    none (mark e n) = absurd (unmarked e)
+    none (scan e) = absurd (unscanned e)
+
 agree-each : (k : ℕ) (q : Status) (tasks : ℕ → Option Task) → agreeTo k q tasks ≡ true → (m : ℕ) → m < k → (t : Task) → tasks m ≡ Some t → t .status ≡ q
 agree-each zero q tasks e m l t p = absurd (omega arith)
 agree-each (suc k) q tasks e m l t p = ⊎-elim
@@ -72,49 +95,32 @@ pub rest-kept : (s : State) → Invariant s → s .collector .stage ≡ Rest →
 rest-kept s I g =
     let K = I .control in
     let at = K .rest g in
-    record {
-      structure = structure-same s _ (I .structure);
-      control = record {
-        rest = λ e. let z : _≡_ {A = ℕ} 0 1 = cc in absurd (omega arith);
-        clear = λ e. (refl, at .1, at .2);
-        mark = λ e. let z : _≡_ {A = ℕ} 0 1 = cc in absurd (omega arith);
-        mark-statuses = λ e. let z : _≡_ {A = ℕ} 0 1 = cc in absurd (omega arith);
-        scan = λ e. let z : _≡_ {A = ℕ} 0 1 = cc in absurd (omega arith);
-        scan-place = λ e. let z : _≡_ {A = ℕ} 0 1 = cc in absurd (omega arith);
-        sweep = λ e. let z : _≡_ {A = ℕ} 0 1 = cc in absurd (omega arith);
-        sweep-place = λ e. let z : _≡_ {A = ℕ} 0 1 = cc in absurd (omega arith);
-        unscanned = λ n. K .unscanned (λ e. let z : _≡_ {A = ℕ} 0 1 = cc in omega arith);
-        nothing-traced = λ n k u. K .nothing-traced (λ e. let z : _≡_ {A = ℕ} 0 1 = cc in omega arith) (λ e. let z : _≡_ {A = ℕ} 0 1 = cc in omega arith) (traces-same refl u);
-        statuses = λ m t p. inr (⊎-elim (λ e. e ∙ at .0 ∙ sym (at .1)) (λ e. e) (K .statuses m t p));
-        scan-looked = λ e u k q. let z : _≡_ {A = ℕ} 0 1 = cc in absurd (omega arith);
-      };
-      works = works-same s _ (I .works);
-      safe = I .safe;
-      new-cells = record {
-        unsettled = I .new-cells .unsettled;
-        settled = I .new-cells .settled;
-        in-mark = λ m x a t p q e h. let z : _≡_ {A = ℕ} 0 1 = cc in absurd (omega arith);
-        in-scan = λ m x a t p q e h. let z : _≡_ {A = ℕ} 0 1 = cc in absurd (omega arith);
-      };
-      sweeps = record {
-        cached = I .sweeps .cached;
-        in-hand = I .sweeps .in-hand;
-        rest-black = λ e. let z : _≡_ {A = ℕ} 0 1 = cc in absurd (omega arith);
-        clear-black = λ e. I .sweeps .rest-black g;
-        behind = λ e. let z : _≡_ {A = ℕ} 0 1 = cc in absurd (omega arith);
-        ahead-used = λ e. let z : _≡_ {A = ℕ} 0 1 = cc in absurd (omega arith);
-        ahead-made = λ e. let z : _≡_ {A = ℕ} 0 1 = cc in absurd (omega arith);
-        new-value = I .sweeps .new-value;
-        directory = λ e. let z : _≡_ {A = ℕ} 0 1 = cc in absurd (omega arith);
-      };
-      first-half = λ h. let e = h .0 in let z : _≡_ {A = ℕ} 0 1 = cc in absurd (omega arith);
-      Cut = I .Cut;
-      second-half = none;
-    }
-  where
-    none : SecondHalfOf (rest s .after .collector) → MarksSecond (rest s .after) (I .Cut)
-    none (mark e n) = let z : _≡_ {A = ℕ} 0 1 = cc in absurd (omega arith)
-    none (scan e) = let z : _≡_ {A = ℕ} 0 1 = cc in absurd (omega arith)
+    quiet-turn s I _ (λ e. let z : _≡_ {A = ℕ} 0 1 = cc in omega arith) (λ e. let z : _≡_ {A = ℕ} 0 1 = cc in omega arith)
+    (record {
+      rest = λ e. let z : _≡_ {A = ℕ} 0 1 = cc in absurd (omega arith);
+      clear = λ e. (refl, at .1, at .2);
+      mark = λ e. let z : _≡_ {A = ℕ} 0 1 = cc in absurd (omega arith);
+      mark-statuses = λ e. let z : _≡_ {A = ℕ} 0 1 = cc in absurd (omega arith);
+      scan = λ e. let z : _≡_ {A = ℕ} 0 1 = cc in absurd (omega arith);
+      scan-place = λ e. let z : _≡_ {A = ℕ} 0 1 = cc in absurd (omega arith);
+      sweep = λ e. let z : _≡_ {A = ℕ} 0 1 = cc in absurd (omega arith);
+      sweep-place = λ e. let z : _≡_ {A = ℕ} 0 1 = cc in absurd (omega arith);
+      unscanned = λ n. K .unscanned (λ e. let z : _≡_ {A = ℕ} 0 1 = cc in omega arith);
+      nothing-traced = λ n k u. K .nothing-traced (λ e. let z : _≡_ {A = ℕ} 0 1 = cc in omega arith) (λ e. let z : _≡_ {A = ℕ} 0 1 = cc in omega arith) (traces-same refl u);
+      statuses = λ m t p. inr (⊎-elim (λ e. e ∙ at .0 ∙ sym (at .1)) (λ e. e) (K .statuses m t p));
+      scan-looked = λ e u k q. let z : _≡_ {A = ℕ} 0 1 = cc in absurd (omega arith);
+    })
+    (record {
+      cached = I .sweeps .cached;
+      in-hand = I .sweeps .in-hand;
+      rest-black = λ e. let z : _≡_ {A = ℕ} 0 1 = cc in absurd (omega arith);
+      clear-black = λ e. I .sweeps .rest-black g;
+      behind = λ e. let z : _≡_ {A = ℕ} 0 1 = cc in absurd (omega arith);
+      ahead-used = λ e. let z : _≡_ {A = ℕ} 0 1 = cc in absurd (omega arith);
+      ahead-made = λ e. let z : _≡_ {A = ℕ} 0 1 = cc in absurd (omega arith);
+      new-value = I .sweeps .new-value;
+      directory = λ e. let z : _≡_ {A = ℕ} 0 1 = cc in absurd (omega arith);
+    })
 
 -- marking begins, once every task has seen the collector leave Rest
 abbrev marks : State → State

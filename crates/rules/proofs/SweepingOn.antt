@@ -12,9 +12,9 @@ use Rattle.rules.specs.declared.Swept.{Swept}
 use Rattle.rules.specs.declared.Swept.the-variants.{Before, At, Past}
 use Rattle.rules.specs.State.{State}
 use Rattle.rules.specs.Collecting.{sweepTo}
-use Rattle.rules.proofs.Handshaking.{structure-same, works-same, traces-same}
-use Rattle.rules.proofs.Words.{PassedBy, behind, looked-at, Passed, SecondHalfOf, mark, scan}
-use Rattle.rules.proofs.Invariant.{Control, NewCells, Sweeps, MarksSecond, Invariant}
+use Rattle.rules.proofs.Handshaking.{quiet-turn, traces-same}
+use Rattle.rules.proofs.Words.{PassedBy, behind, looked-at, Passed}
+use Rattle.rules.proofs.Invariant.{Control, Sweeps, Invariant}
 
 at-same : {a b : ℕ} → _≡_ {A = Swept} (At a) (At b) → a ≡ b
 at-same e = cc
@@ -36,105 +36,71 @@ module _ (s : State) (I : Invariant s) (g : s .collector .stage ≡ Sweep) (k : 
   next-cell more =
       let K = I .control in
       let at = K .sweep g in
-      record {
-        structure = structure-same s _ (I .structure);
-        control = record {
-          rest = λ e. let z : _≡_ {A = ℕ} 0 1 = cc in absurd (omega arith);
-          clear = λ e. let z : _≡_ {A = ℕ} 0 1 = cc in absurd (omega arith);
-          mark = λ e. let z : _≡_ {A = ℕ} 0 1 = cc in absurd (omega arith);
-          mark-statuses = λ e. let z : _≡_ {A = ℕ} 0 1 = cc in absurd (omega arith);
-          scan = λ e. let z : _≡_ {A = ℕ} 0 1 = cc in absurd (omega arith);
-          scan-place = λ e. let z : _≡_ {A = ℕ} 0 1 = cc in absurd (omega arith);
-          sweep = λ e. at;
-          sweep-place = λ e. (k + 1, (refl, more));
-          unscanned = λ n. K .unscanned (λ e. let z : _≡_ {A = ℕ} 0 1 = cc in omega arith);
-          nothing-traced = λ n o u. K .nothing-traced (λ e. let z : _≡_ {A = ℕ} 0 1 = cc in omega arith) (λ e. let z : _≡_ {A = ℕ} 0 1 = cc in omega arith) (traces-same refl u);
-          statuses = K .statuses;
-          scan-looked = λ e u j q. let z : _≡_ {A = ℕ} 0 1 = cc in absurd (omega arith);
-        };
-        works = works-same s _ (I .works);
-        safe = I .safe;
-        new-cells = record {
-          unsettled = I .new-cells .unsettled;
-          settled = I .new-cells .settled;
-          in-mark = λ m x a t p q e h. let z : _≡_ {A = ℕ} 0 1 = cc in absurd (omega arith);
-          in-scan = λ m x a t p q e h. let z : _≡_ {A = ℕ} 0 1 = cc in absurd (omega arith);
-        };
-        sweeps = record {
-          cached = I .sweeps .cached;
-          in-hand = I .sweeps .in-hand;
-          rest-black = λ e. let z : _≡_ {A = ℕ} 0 1 = cc in absurd (omega arith);
-          clear-black = λ e. let z : _≡_ {A = ℕ} 0 1 = cc in absurd (omega arith);
-          behind = λ e x w. I .sweeps .behind g x (past x (back x w));
-          ahead-used = λ e x u q. behind refl (let r = reached x (I .sweeps .ahead-used g x u q) in omega arith);
-          ahead-made = λ e x u q. behind refl (let r = reached x (I .sweeps .ahead-made g x u q) in omega arith);
-          new-value = I .sweeps .new-value;
-          directory = λ e. let z : _≡_ {A = ℕ} 0 1 = cc in absurd (omega arith);
-        };
-        first-half = λ h. let e = h .0 in let z : _≡_ {A = ℕ} 0 1 = cc in absurd (omega arith);
-        Cut = I .Cut;
-        second-half = none;
-      }
+      quiet-turn s I _ (λ e. let z : _≡_ {A = ℕ} 0 1 = cc in omega arith) (λ e. let z : _≡_ {A = ℕ} 0 1 = cc in omega arith)
+      (record {
+        rest = λ e. let z : _≡_ {A = ℕ} 0 1 = cc in absurd (omega arith);
+        clear = λ e. let z : _≡_ {A = ℕ} 0 1 = cc in absurd (omega arith);
+        mark = λ e. let z : _≡_ {A = ℕ} 0 1 = cc in absurd (omega arith);
+        mark-statuses = λ e. let z : _≡_ {A = ℕ} 0 1 = cc in absurd (omega arith);
+        scan = λ e. let z : _≡_ {A = ℕ} 0 1 = cc in absurd (omega arith);
+        scan-place = λ e. let z : _≡_ {A = ℕ} 0 1 = cc in absurd (omega arith);
+        sweep = λ e. at;
+        sweep-place = λ e. (k + 1, (refl, more));
+        unscanned = λ n. K .unscanned (λ e. let z : _≡_ {A = ℕ} 0 1 = cc in omega arith);
+        nothing-traced = λ n o u. K .nothing-traced (λ e. let z : _≡_ {A = ℕ} 0 1 = cc in omega arith) (λ e. let z : _≡_ {A = ℕ} 0 1 = cc in omega arith) (traces-same refl u);
+        statuses = K .statuses;
+        scan-looked = λ e u j q. let z : _≡_ {A = ℕ} 0 1 = cc in absurd (omega arith);
+      })
+      (record {
+        cached = I .sweeps .cached;
+        in-hand = I .sweeps .in-hand;
+        rest-black = λ e. let z : _≡_ {A = ℕ} 0 1 = cc in absurd (omega arith);
+        clear-black = λ e. let z : _≡_ {A = ℕ} 0 1 = cc in absurd (omega arith);
+        behind = λ e x w. I .sweeps .behind g x (past x (back x w));
+        ahead-used = λ e x u q. behind refl (let r = reached x (I .sweeps .ahead-used g x u q) in omega arith);
+        ahead-made = λ e x u q. behind refl (let r = reached x (I .sweeps .ahead-made g x u q) in omega arith);
+        new-value = I .sweeps .new-value;
+        directory = λ e. let z : _≡_ {A = ℕ} 0 1 = cc in absurd (omega arith);
+      })
     where
       back : (x : ℕ) → PassedBy (sweepTo s (At (k + 1)) Sweep .collector) x → x ≤ k
       back x (behind e l) = let same = at-same e in omega arith
       back x (looked-at e l) = let z : _≡_ {A = ℕ} 0 1 = cc in absurd (omega arith)
-
-      none : SecondHalfOf (sweepTo s (At (k + 1)) Sweep .collector) → MarksSecond (sweepTo s (At (k + 1)) Sweep) (I .Cut)
-      none (mark e n) = let z : _≡_ {A = ℕ} 0 1 = cc in absurd (omega arith)
-      none (scan e) = let z : _≡_ {A = ℕ} 0 1 = cc in absurd (omega arith)
 
   -- back to Rest, past every cell
   pub returned : s .cells .size ≤ k + 1 → Invariant (sweepTo s Past Rest)
   returned all =
       let K = I .control in
       let at = K .sweep g in
-      record {
-        structure = structure-same s _ (I .structure);
-        control = record {
-          rest = λ e. (at .0, at .1, refl);
-          clear = λ e. let z : _≡_ {A = ℕ} 0 1 = cc in absurd (omega arith);
-          mark = λ e. let z : _≡_ {A = ℕ} 0 1 = cc in absurd (omega arith);
-          mark-statuses = λ e. let z : _≡_ {A = ℕ} 0 1 = cc in absurd (omega arith);
-          scan = λ e. let z : _≡_ {A = ℕ} 0 1 = cc in absurd (omega arith);
-          scan-place = λ e. let z : _≡_ {A = ℕ} 0 1 = cc in absurd (omega arith);
-          sweep = λ e. let z : _≡_ {A = ℕ} 0 1 = cc in absurd (omega arith);
-          sweep-place = λ e. let z : _≡_ {A = ℕ} 0 1 = cc in absurd (omega arith);
-          unscanned = λ n. K .unscanned (λ e. let z : _≡_ {A = ℕ} 0 1 = cc in omega arith);
-          nothing-traced = λ n o u. K .nothing-traced (λ e. let z : _≡_ {A = ℕ} 0 1 = cc in omega arith) (λ e. let z : _≡_ {A = ℕ} 0 1 = cc in omega arith) (traces-same refl u);
-          statuses = K .statuses;
-          scan-looked = λ e u j q. let z : _≡_ {A = ℕ} 0 1 = cc in absurd (omega arith);
-        };
-        works = works-same s _ (I .works);
-        safe = I .safe;
-        new-cells = record {
-          unsettled = I .new-cells .unsettled;
-          settled = I .new-cells .settled;
-          in-mark = λ m x a t p q e h. let z : _≡_ {A = ℕ} 0 1 = cc in absurd (omega arith);
-          in-scan = λ m x a t p q e h. let z : _≡_ {A = ℕ} 0 1 = cc in absurd (omega arith);
-        };
-        sweeps = record {
-          cached = I .sweeps .cached;
-          in-hand = I .sweeps .in-hand;
-          rest-black = λ e x b. I .sweeps .behind g x (past x (inside x b)) b;
-          clear-black = λ e. let z : _≡_ {A = ℕ} 0 1 = cc in absurd (omega arith);
-          behind = λ e. let z : _≡_ {A = ℕ} 0 1 = cc in absurd (omega arith);
-          ahead-used = λ e. let z : _≡_ {A = ℕ} 0 1 = cc in absurd (omega arith);
-          ahead-made = λ e. let z : _≡_ {A = ℕ} 0 1 = cc in absurd (omega arith);
-          new-value = I .sweeps .new-value;
-          directory = λ e. let z : _≡_ {A = ℕ} 0 1 = cc in absurd (omega arith);
-        };
-        first-half = λ h. let e = h .0 in let z : _≡_ {A = ℕ} 0 1 = cc in absurd (omega arith);
-        Cut = I .Cut;
-        second-half = none;
-      }
+      quiet-turn s I _ (λ e. let z : _≡_ {A = ℕ} 0 1 = cc in omega arith) (λ e. let z : _≡_ {A = ℕ} 0 1 = cc in omega arith)
+      (record {
+        rest = λ e. (at .0, at .1, refl);
+        clear = λ e. let z : _≡_ {A = ℕ} 0 1 = cc in absurd (omega arith);
+        mark = λ e. let z : _≡_ {A = ℕ} 0 1 = cc in absurd (omega arith);
+        mark-statuses = λ e. let z : _≡_ {A = ℕ} 0 1 = cc in absurd (omega arith);
+        scan = λ e. let z : _≡_ {A = ℕ} 0 1 = cc in absurd (omega arith);
+        scan-place = λ e. let z : _≡_ {A = ℕ} 0 1 = cc in absurd (omega arith);
+        sweep = λ e. let z : _≡_ {A = ℕ} 0 1 = cc in absurd (omega arith);
+        sweep-place = λ e. let z : _≡_ {A = ℕ} 0 1 = cc in absurd (omega arith);
+        unscanned = λ n. K .unscanned (λ e. let z : _≡_ {A = ℕ} 0 1 = cc in omega arith);
+        nothing-traced = λ n o u. K .nothing-traced (λ e. let z : _≡_ {A = ℕ} 0 1 = cc in omega arith) (λ e. let z : _≡_ {A = ℕ} 0 1 = cc in omega arith) (traces-same refl u);
+        statuses = K .statuses;
+        scan-looked = λ e u j q. let z : _≡_ {A = ℕ} 0 1 = cc in absurd (omega arith);
+      })
+      (record {
+        cached = I .sweeps .cached;
+        in-hand = I .sweeps .in-hand;
+        rest-black = λ e x b. I .sweeps .behind g x (past x (inside x b)) b;
+        clear-black = λ e. let z : _≡_ {A = ℕ} 0 1 = cc in absurd (omega arith);
+        behind = λ e. let z : _≡_ {A = ℕ} 0 1 = cc in absurd (omega arith);
+        ahead-used = λ e. let z : _≡_ {A = ℕ} 0 1 = cc in absurd (omega arith);
+        ahead-made = λ e. let z : _≡_ {A = ℕ} 0 1 = cc in absurd (omega arith);
+        new-value = I .sweeps .new-value;
+        directory = λ e. let z : _≡_ {A = ℕ} 0 1 = cc in absurd (omega arith);
+      })
     where
       inside : (x : ℕ) → s .cells .colour x ≡ Black → x ≤ k
       inside x b = ⊎-elim
           (λ (l : x < s .cells .size). omega arith)
           (λ (h : s .cells .size ≤ x). let w = I .structure .memory .no-cell x h in let z : _≡_ {A = ℕ} 0 1 = cc in absurd (omega arith))
           (cases-lt x (s .cells .size))
-
-      none : SecondHalfOf (sweepTo s Past Rest .collector) → MarksSecond (sweepTo s Past Rest) (I .Cut)
-      none (mark e n) = let z : _≡_ {A = ℕ} 0 1 = cc in absurd (omega arith)
-      none (scan e) = let z : _≡_ {A = ℕ} 0 1 = cc in absurd (omega arith)

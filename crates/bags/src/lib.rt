@@ -1,4 +1,6 @@
 // Bags of 16-bit numbers, in which a number may stand more than once.
+#![tactic(auto)]
+
 ghost use Rattle.std.specs.Prelude.{◌≡◌, length};
 ghost use Rattle.bags.specs.Holding.{Hold, Sound, put_answer, put_into, take_answer, taken_from};
 ghost use Rattle.bags.specs.Refusals.{bag_refusal_number};

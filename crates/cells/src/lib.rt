@@ -1,4 +1,6 @@
 // Cell memories: a table of cells, each with a colour and a few links.
+#![tactic(auto)]
+
 ghost use Rattle.std.specs.Prelude.{◌≡◌, ℕ, ◌≤◌};
 ghost use Rattle.cells.specs.Memory.{Cells, Sound, colour_at, link_at, colour_taken, link_taken, coloured, linked};
 

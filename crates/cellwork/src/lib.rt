@@ -1,4 +1,6 @@
 // What the calls of a symbol memory do to its cells, over any cell memory and nothing else.
+#![tactic(auto)]
+
 mod changes;
 mod colours;
 mod links;

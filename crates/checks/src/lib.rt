@@ -1,4 +1,6 @@
 // The checks of the calls on tasks, each in the order of the refusals' numbers, beside d directory cells.
+#![tactic(auto)]
+
 ghost use Rattle.std.specs.Prelude.{◌≡◌};
 ghost use Rattle.rules.specs.State.{has_slot};
 

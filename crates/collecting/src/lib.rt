@@ -1,4 +1,6 @@
 // The collector's turn over any cell memory and any two bags.
+#![tactic(auto)]
+
 ghost use Rattle.std.specs.Prelude.{◌≡◌};
 ghost use Rattle.rules.specs.Collecting.{collect};
 ghost use Rattle.rules.specs.State.{accepted};

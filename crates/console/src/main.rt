@@ -1,4 +1,6 @@
 // The console: a script from standard input, one call a line, and what each line is answered.
+#![tactic(auto)]
+
 use bags::{Bag, Pile, Ring};
 use cells::{Board, CellRecord};
 use reply::answer;

@@ -1,4 +1,6 @@
 // The words that the rules of the symbol memory are told in; the rules themselves are definitions in specs/.
+#![tactic(auto)]
+
 ghost use Rattle.std.specs.Prelude.{◌≡◌};
 ghost use Rattle.rules.specs.Examples.{WorkedExamples};
 ghost use Rattle.rules.specs.Refusals.{refusal_number};

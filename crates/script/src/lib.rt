@@ -1,5 +1,7 @@
 // The reader of the console's scripts, for any bytes. A line is one call: a word, and then decimal numbers of one to
 // five digits, each after exactly one space. A line ends in a line feed, which the last line may lack.
+#![tactic(auto)]
+
 ghost use Rattle.std.specs.Prelude.{◌≡◌, ◌≤◌, take, if◌then◌else◌};
 ghost use Rattle.script.specs.Lines.{before, ended, filled, line_of, line_size, number_at, number_of};
 ghost use Rattle.script.specs.Lines.{number_size, numbers_of, refusal_number, request_of, spaced, word_of, word_size};

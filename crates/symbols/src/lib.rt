@@ -1,4 +1,6 @@
 // The symbol memory: tasks with registers and pools over any cell memory and any two bags.
+#![tactic(auto)]
+
 mod changes;
 mod handshake;
 mod makings;

@@ -1,4 +1,6 @@
 // The tasks of a symbol memory: eight slots, and in each a task with its registers, its pool and its unfinished work, or none.
+#![tactic(auto)]
+
 ghost use Rattle.std.specs.Prelude.{◌≡◌, ◌+◌, ◌<◌, ◌≤◌, [], ◌∷◌, length, get_or, Some, None, slice_index_or};
 ghost use Rattle.bags.specs.Stacks.{stacked};
 ghost use Rattle.cells.specs.Memory.{at};

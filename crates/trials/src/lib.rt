@@ -1,4 +1,6 @@
 // Examples of the byte layout, of the smallest and largest sizes, and of malformed scripts, each run as a test.
+#![tactic(auto)]
+
 #[cfg(test)]
 mod memories;
 #[cfg(test)]

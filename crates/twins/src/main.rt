@@ -1,4 +1,6 @@
 // One job on board memory and on byte memory, with other bags, and whether both were answered alike.
+#![tactic(auto)]
+
 use bags::{Bag, Pile, Ring};
 use cells::{Board, Bytes, CellMemory, CellRecord};
 use rules::Refusal;

@@ -15,7 +15,7 @@ pub loop-byte-preserved : goal.loop-byte-preserved
 loop-byte-preserved c =
     let number = c.loop-byte.number in
     let i = c.loop-byte.byte-index in
-    let digit = c.if-not-is-ascii-digit.ensures in (
+    let digit = c.if-not-is_ascii_digit.ensures in (
       decimal_fits number _ i c.loop-byte.invariant.0 (omega (arith, digit.cases)),
       sym (decimal_goes_on number c.args.word.now i c.loop-byte-test.true (sym digit.value)) ∙ c.loop-byte.invariant.1,
     )
@@ -23,11 +23,11 @@ loop-byte-preserved c =
 pub returns-then-number-le-LARGEST : goal.returns-then-number-le-LARGEST
 returns-then-number-le-LARGEST c =
     let number = c.loop-byte.number in
-    let whole = number_when_whole number c.args.word.now c.loop-byte.byte-index (sym c.if-is-empty.ensures) c.if-word-gt-MOST-DIGITS.false c.loop-byte.invariant.1 c.loop-byte-test.false in
+    let whole = number_when_whole number c.args.word.now c.loop-byte.byte-index (sym c.if-is_empty.ensures) c.if-word-gt-MOST_DIGITS.false c.loop-byte.invariant.1 c.loop-byte-test.false in
     sym (whole ∙ cond-true _ _ _ (le-leb number 65535 c.if-number-le-LARGEST.true))
 
 pub returns-else-number-le-LARGEST : goal.returns-else-number-le-LARGEST
 returns-else-number-le-LARGEST c =
     let number = c.loop-byte.number in
-    let whole = number_when_whole number c.args.word.now c.loop-byte.byte-index (sym c.if-is-empty.ensures) c.if-word-gt-MOST-DIGITS.false c.loop-byte.invariant.1 c.loop-byte-test.false in
+    let whole = number_when_whole number c.args.word.now c.loop-byte.byte-index (sym c.if-is_empty.ensures) c.if-word-gt-MOST_DIGITS.false c.loop-byte.invariant.1 c.loop-byte-test.false in
     sym (whole ∙ cond-false _ _ _ (lt-leb number 65535 c.if-number-le-LARGEST.false))

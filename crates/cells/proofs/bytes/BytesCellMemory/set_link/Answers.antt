@@ -7,10 +7,10 @@ use Rattle.cells.proofs.bytes.BytesCellMemory.set_link.Goals as goal
 pub returns : goal.returns
 returns c =
     let bytes = c.args.self.now.bytes.now in
-    let exact : c.put-word.new.bytes ≡ bytes_linked bytes c.args.cell c.args.i c.args.value = search rules in
+    let exact : c.put_word.new.bytes ≡ bytes_linked bytes c.args.cell c.args.i c.args.value = search rules in
     record {
       answer = search rules;
-      after = linked_after bytes c.put-word.new.bytes c.args.cell c.args.i c.args.value exact;
-      rest = ap (λ spare. (spare, c.args.self.now.bytes.ghost_name)) (linked_rest bytes c.put-word.new.bytes c.args.cell c.args.i c.args.value exact);
+      after = linked_after bytes c.put_word.new.bytes c.args.cell c.args.i c.args.value exact;
+      rest = ap (λ spare. (spare, c.args.self.now.bytes.ghost_name)) (linked_rest bytes c.put_word.new.bytes c.args.cell c.args.i c.args.value exact);
       exact = exact;
     }

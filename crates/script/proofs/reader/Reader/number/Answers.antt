@@ -19,7 +19,7 @@ returns c =
     let size : number_size text ≡ 1 + word_size (drop 1 text) = cond-true (spaced text) _ _ space in
     let word : word_size (rest c.space.new.self) ≡ word_size (drop 1 text) = ap word_size after in
     record {
-      number = c.ok-or.ensures.value ∙ ap (λ o. ok_or o BadNumbers) (c.number-of.ensures ∙ ap number_of (read.text ∙ ap word_of after) ∙ sym number);
+      number = c.ok_or.ensures.value ∙ ap (λ o. ok_or o BadNumbers) (c.number_of.ensures ∙ ap number_of (read.text ∙ ap word_of after) ∙ sym number);
       moved = record {
         text = read.moved.text ∙ stepped.text;
         place = omega (arith, read.moved.place, stepped.place);

@@ -19,9 +19,9 @@ returns-in-err-numbers c =
 
 pub loop-i-preserved : goal.loop-i-preserved
 loop-i-preserved c =
-    let told = c.in-ok-numbers.ensures.number in
-    let some : number_at (rest c.loop-i.self) ≡ Some c.in-ok-numbers.field-0 = grind arith in
-    read_one_more c.loop-i.invariant _ _ c.loop-i-test.true c.requires some (rest_moved c.in-ok-numbers.ensures.moved)
+    let told = c.in_ok-numbers.ensures.number in
+    let some : number_at (rest c.loop-i.self) ≡ Some c.in_ok-numbers.field-0 = grind arith in
+    read_one_more c.loop-i.invariant _ _ c.loop-i-test.true c.requires some (rest_moved c.in_ok-numbers.ensures.moved)
 
 pub returns-then-at-end : goal.returns-then-at-end
 returns-then-at-end c =

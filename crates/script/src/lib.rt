@@ -13,7 +13,6 @@ mod words;
 
 pub use reader::Reader;
 pub use words::Verb;
-// Another crate prints and compares verbs by these.
 
 /// Why a line is refused. The word is judged before the numbers.
 #[derive(Clone, Copy, PartialEq, Eq, Debug)]

@@ -5,11 +5,11 @@ use Rattle.script.specs.Lines.{up_to}
 use Rattle.script.proofs.Decimals.{decimal_goes_on, decimal_refused, decimal_fits, number_of_length, number_when_whole}
 use Rattle.script.proofs.number_of.Goals as goal
 
-pub returns-then-not-is-ascii-digit : goal.returns-then-not-is-ascii-digit
-returns-then-not-is-ascii-digit c =
+pub returns-then-not-is_ascii_digit : goal.returns-then-not-is_ascii_digit
+returns-then-not-is_ascii_digit c =
     let word = c.args.word.now in
-    let refused = decimal_refused c.loop-byte.number word c.loop-byte.byte-index c.loop-byte-test.true (sym c.if-not-is-ascii-digit.ensures.value) in
-    sym (number_of_length word (sym c.if-is-empty.ensures) c.if-word-gt-MOST-DIGITS.false ∙ ap (up_to 65535) (sym c.loop-byte.invariant.1 ∙ refused))
+    let refused = decimal_refused c.loop-byte.number word c.loop-byte.byte-index c.loop-byte-test.true (sym c.if-not-is_ascii_digit.ensures.value) in
+    sym (number_of_length word (sym c.if-is_empty.ensures) c.if-word-gt-MOST_DIGITS.false ∙ ap (up_to 65535) (sym c.loop-byte.invariant.1 ∙ refused))
 
 pub loop-byte-preserved : goal.loop-byte-preserved
 loop-byte-preserved c =

@@ -14,7 +14,7 @@ loop-j-preserved c =
     let held = read c.args.registers in
     let j = c.loop-j.j in
     elim c.if-bit.branch [
-      | then-bit w ↦ ap read w.copied-is ∙ w.set-register.ensures ∙ ap (at j (held j)) c.loop-j.invariant ∙ one_copied mask held j (sym w.if-bit.ensures)
+      | then-bit w ↦ ap read w.copied-is ∙ w.set_register.ensures ∙ ap (at j (held j)) c.loop-j.invariant ∙ one_copied mask held j (sym w.if-bit.ensures)
       | else-bit w ↦ ap read w.copied-is ∙ c.loop-j.invariant ∙ one_passed mask held j (sym w.if-bit.ensures)
     ]
 

@@ -6,5 +6,5 @@ use Rattle.tasks.proofs.hold_in.Goals as goal
 pub returns-in-Some : goal.returns-in-Some
 returns-in-Some c =
     let t = c.in-Some.task in
-    ap (λ (rs : ℕ → Option ℕ). Some (record { status = t.status; registers = rs; pool = pool_of t.pool; work = t.work })) c.set-register.ensures
+    ap (λ (rs : ℕ → Option ℕ). Some (record { status = t.status; registers = rs; pool = pool_of t.pool; work = t.work })) c.set_register.ensures
     ∙ ap (λ s. with_held (slot_of s) c.args.b c.args.v) (sym c.in-Some.is)

@@ -14,6 +14,6 @@ returns-in-Making g c =
       result = λ free cache.
           let s = state_with (m.means c.args.memory.now) m.links free cache c.args.d tasks c.args.collector.now in
           c.settle.ensures.result free cache ∙ passed s (carry_on_checks c.args.d tasks c.args.m) (carrying s c.args.m) (Making c.in-Making.cell c.in-Making.settled)
-          (ap Ok (sym c.in-Making.is) ∙ c.in-ok-cell.ensures);
+          (ap Ok (sym c.in-Making.is) ∙ c.in_ok-cell.ensures);
       rest = c.settle.ensures.rest;
     }

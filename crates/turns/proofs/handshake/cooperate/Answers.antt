@@ -19,7 +19,7 @@ returns g c =
       result = λ free cache.
           let s = state_with (m.means c.args.memory.now) m.links free cache d tasks c.args.collector.now in
           c.reply.ensures.result free cache
-          ∙ sym (cond-false _ (accepted 0 s) (accepted 1 (replying s slot c.in-ok-status.status)) (other_status _ _ c.if-eq.ensures))
-          ∙ passed s (cooperate_checks d tasks slot) (λ q. cond (same_status q s.collector.status) (accepted 0 s) (accepted 1 (replying s slot q))) c.in-ok-status.status c.in-ok-status.ensures;
+          ∙ sym (cond-false _ (accepted 0 s) (accepted 1 (replying s slot c.in_ok-status.status)) (other_status _ _ c.if-eq.ensures))
+          ∙ passed s (cooperate_checks d tasks slot) (λ q. cond (same_status q s.collector.status) (accepted 0 s) (accepted 1 (replying s slot q))) c.in_ok-status.status c.in_ok-status.ensures;
       rest = c.reply.ensures.rest;
     }

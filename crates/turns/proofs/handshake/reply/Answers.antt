@@ -13,7 +13,7 @@ returns g c =
     record {
       result = λ free cache.
           ap₂ (λ (cells : Cells) (tasks : ℕ → Option Task). accepted 1 (state_with cells m.links free cache c.args.d tasks c.args.collector.now))
-          (c.grey-reply.ensures.after ∙ ap (λ (held : ℕ → Option ℕ). cond (same_status c.args.status Sync2) (greyed_to 8 before held) before) c.registers.ensures)
-          c.set-status.ensures;
-      rest = c.grey-reply.ensures.rest;
+          (c.grey_reply.ensures.after ∙ ap (λ (held : ℕ → Option ℕ). cond (same_status c.args.status Sync2) (greyed_to 8 before held) before) c.registers.ensures)
+          c.set_status.ensures;
+      rest = c.grey_reply.ensures.rest;
     }

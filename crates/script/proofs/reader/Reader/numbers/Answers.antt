@@ -9,11 +9,11 @@ use Rattle.script.proofs.Numbers.{read_one_more, refused_by_number, all_read}
 use Rattle.script.proofs.Places.{rest_moved}
 use Rattle.script.proofs.reader.Reader.numbers.Goals as goal
 
-pub returns-in-err-numbers : goal.returns-in-err-numbers
-returns-in-err-numbers c =
-    let told = c.in-err-numbers.ensures.number in
+pub returns-in_err-numbers : goal.returns-in_err-numbers
+returns-in_err-numbers c =
+    let told = c.in_err-numbers.ensures.number in
     let none : number_at (rest c.loop-i.self) ≡ None = grind arith in
-    let p = err_from_is_err_and c.from-residual.result c.from-residual.ensures.1 in
+    let p = err_from_is_err_and c.from_residual.result c.from_residual.ensures.1 in
     let bad : p.0 ≡ BadNumbers = grind arith in
     p.1 ∙ ap Err bad ∙ sym (ap (λ o. ok_or (filled o) BadNumbers) (refused_by_number c.loop-i.invariant c.loop-i-test.true none))
 
@@ -23,6 +23,6 @@ loop-i-preserved c =
     let some : number_at (rest c.loop-i.self) ≡ Some c.in_ok-numbers.field-0 = grind arith in
     read_one_more c.loop-i.invariant _ _ c.loop-i-test.true c.requires some (rest_moved c.in_ok-numbers.ensures.moved)
 
-pub returns-then-at-end : goal.returns-then-at-end
-returns-then-at-end c =
-    sym (ap (λ o. ok_or o BadNumbers) (all_read c.loop-i.invariant (omega arith) (omega (arith, c.requires)) (sym c.if-at-end.ensures)))
+pub returns-then-at_end : goal.returns-then-at_end
+returns-then-at_end c =
+    sym (ap (λ o. ok_or o BadNumbers) (all_read c.loop-i.invariant (omega arith) (omega (arith, c.requires)) (sym c.if-at_end.ensures)))

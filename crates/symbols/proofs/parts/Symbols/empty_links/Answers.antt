@@ -14,7 +14,7 @@ loop-i-preserved g c =
     let i = c.loop-i.i in
     record {
       state =
-          c.empty-link.ensures.state ∙ ap (λ (t : State). emptying_link t x i) c.loop-i.invariant.state
+          c.empty_link.ensures.state ∙ ap (λ (t : State). emptying_link t x i) c.loop-i.invariant.state
           ∙ ap (with_cells s) (one_emptied m.links s.cells (m.sound c.args.self.now.memory.now) x i (omega arith));
-      lent = same_then m g.F.Bag g.C.Bag c.loop-i.invariant.lent c.empty-link.ensures.lent;
+      lent = same_then m g.F.Bag g.C.Bag c.loop-i.invariant.lent c.empty_link.ensures.lent;
     }

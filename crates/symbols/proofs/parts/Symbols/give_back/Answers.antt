@@ -18,24 +18,24 @@ pub loop-k-preserved : goal.loop-k-preserved
 loop-k-preserved g c =
     let s = state_of g.M.CellMemory g.F.Bag g.C.Bag c.args.self.now in
     let m = c.args.m in
-    let found = give_back_checked s.directory s.tasks m c.in-ok-held.held c.in-ok-held.ensures.checks in
-    let size : c.in-ok-held.held ≡ length (pool_in (s.tasks m)) = found.many ∙ ap (λ o. length (pool_in o)) (sym found.present) in
+    let found = give_back_checked s.directory s.tasks m c.in_ok-held.held c.in_ok-held.ensures.checks in
+    let size : c.in_ok-held.held ≡ length (pool_in (s.tasks m)) = found.many ∙ ap (λ o. length (pool_in o)) (sym found.present) in
     record {
-      state = c.return-one.ensures.state ∙ ap (returning m) c.loop-k.invariant.state ∙ one_returned s m c.loop-k.-k (omega arith);
-      lent = same_then g.M.CellMemory g.F.Bag g.C.Bag c.loop-k.invariant.lent c.return-one.ensures.lent;
+      state = c.return_one.ensures.state ∙ ap (returning m) c.loop-k.invariant.state ∙ one_returned s m c.loop-k.-k (omega arith);
+      lent = same_then g.M.CellMemory g.F.Bag g.C.Bag c.loop-k.invariant.lent c.return_one.ensures.lent;
     }
 
 pub returns : goal.returns
 returns g c =
     let s = state_of g.M.CellMemory g.F.Bag g.C.Bag c.args.self.now in
     let m = c.args.m in
-    let held = c.in-ok-held.held in
-    let found = give_back_checked s.directory s.tasks m held c.in-ok-held.ensures.checks in
+    let held = c.in_ok-held.held in
+    let found = give_back_checked s.directory s.tasks m held c.in_ok-held.ensures.checks in
     let size : held ≡ length (pool_in (s.tasks m)) = found.many ∙ ap (λ o. length (pool_in o)) (sym found.present) in
     let end : c.loop-k.-k ≡ length (pool_in (s.tasks m)) = omega arith in
     record {
       result =
           ap (accepted held) (c.loop-k.invariant.state ∙ ap (returned s m) end ∙ all_returned s m)
-          ∙ passed s (give_back_checks s.directory s.tasks m) (λ k. accepted k (with_free (with_task s m (with_pool_of [] (s.tasks m))) (puts s.free (pool_in (s.tasks m))))) held c.in-ok-held.ensures.checks;
+          ∙ passed s (give_back_checks s.directory s.tasks m) (λ k. accepted k (with_free (with_task s m (with_pool_of [] (s.tasks m))) (puts s.free (pool_in (s.tasks m))))) held c.in_ok-held.ensures.checks;
       lent = c.loop-k.invariant.lent;
     }

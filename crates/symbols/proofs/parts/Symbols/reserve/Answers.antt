@@ -18,9 +18,9 @@ pub loop-k-preserved : goal.loop-k-preserved
 loop-k-preserved g c =
     let s = state_of g.M.CellMemory g.F.Bag g.C.Bag c.args.self.now in
     let m = c.args.m in
-    let wanted = c.in-ok-wanted.wanted in
+    let wanted = c.in_ok-wanted.wanted in
     let count = c.count.ensures in
-    let checks : Ok wanted ≡ reserve_checks s.directory (length s.free.members) s.tasks m = c.in-ok-wanted.ensures.checks ∙ ap (λ n. reserve_checks s.directory n s.tasks m) count in
+    let checks : Ok wanted ≡ reserve_checks s.directory (length s.free.members) s.tasks m = c.in_ok-wanted.ensures.checks ∙ ap (λ n. reserve_checks s.directory n s.tasks m) count in
     let found = reserve_checked s.directory (length s.free.members) s.tasks m wanted checks in
     let fair = (g.F.Bag.sound c.args.self.now.free.now).fair in
     record {
@@ -32,9 +32,9 @@ pub returns : goal.returns
 returns g c =
     let s = state_of g.M.CellMemory g.F.Bag g.C.Bag c.args.self.now in
     let m = c.args.m in
-    let wanted = c.in-ok-wanted.wanted in
+    let wanted = c.in_ok-wanted.wanted in
     let count = c.count.ensures in
-    let checks : Ok wanted ≡ reserve_checks s.directory (length s.free.members) s.tasks m = c.in-ok-wanted.ensures.checks ∙ ap (λ n. reserve_checks s.directory n s.tasks m) count in
+    let checks : Ok wanted ≡ reserve_checks s.directory (length s.free.members) s.tasks m = c.in_ok-wanted.ensures.checks ∙ ap (λ n. reserve_checks s.directory n s.tasks m) count in
     let end : c.loop-k.-k ≡ wanted = omega arith in
     record {
       result =

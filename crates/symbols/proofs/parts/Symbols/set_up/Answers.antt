@@ -27,9 +27,9 @@ returns g c =
     let d = c.args.d in
     let all : c.loop-x.x ≡ s.cells.size = omega arith in
     let begins =
-    ap (accepted 0) (laid_begun s (state_of m g.F.Bag g.C.Bag c.loop-x.self) d c.loop-x.x (tasks_of c.new-self.result) c.at-rest-self.result
-    (m.sound c.args.self.now.memory.now) c.loop-x.invariant.state all c.new-self.ensures c.at-rest-self.ensures)
-    ∙ passed s (set_up_checks d s) (λ _. accepted 0 (begun s d)) tt c.in-ok-check-set-up.ensures in
+    ap (accepted 0) (laid_begun s (state_of m g.F.Bag g.C.Bag c.loop-x.self) d c.loop-x.x (tasks_of c.new-self.result) c.at_rest-self.result
+    (m.sound c.args.self.now.memory.now) c.loop-x.invariant.state all c.new-self.ensures c.at_rest-self.ensures)
+    ∙ passed s (set_up_checks d s) (λ _. accepted 0 (begun s d)) tt c.in_ok-check_set_up.ensures in
     record {
       rule = record {
         result = begins;

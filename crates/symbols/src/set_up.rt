@@ -123,7 +123,7 @@ impl<'a, 'b, 'c, M: CellMemory, F: Bag, C: Bag> Symbols<'a, 'b, 'c, M, F, C> {
     }
 
     fn empty_link(&mut self, x: u16, i: usize)
-        ensures { Becomes M.CellMemory F.Bag C.Bag (emptying_link (state_of M-as-CellMemory F.Bag C.Bag self.old) x i) self.old self.new }
+        ensures { Becomes M.CellMemory F.Bag C.Bag (emptying_link (state_of M.CellMemory F.Bag C.Bag self.old) x i) self.old self.new }
     {
         let _ = self.memory.set_link(x, i, None);
     }

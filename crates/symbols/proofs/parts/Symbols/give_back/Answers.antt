@@ -21,7 +21,7 @@ loop-k-preserved g c =
     let found = give_back_checked s.directory s.tasks m c.in_ok-held.held c.in_ok-held.ensures.checks in
     let size : c.in_ok-held.held ≡ length (pool_in (s.tasks m)) = found.many ∙ ap (λ o. length (pool_in o)) (sym found.present) in
     record {
-      state = c.return_one.ensures.state ∙ ap (returning m) c.loop-k.invariant.state ∙ one_returned s m c.loop-k.-k (omega arith);
+      state = c.return_one.ensures.state ∙ ap (returning m) c.loop-k.invariant.state ∙ one_returned s m c.loop-k._k (omega arith);
       lent = same_then g.M.CellMemory g.F.Bag g.C.Bag c.loop-k.invariant.lent c.return_one.ensures.lent;
     }
 
@@ -32,7 +32,7 @@ returns g c =
     let held = c.in_ok-held.held in
     let found = give_back_checked s.directory s.tasks m held c.in_ok-held.ensures.checks in
     let size : held ≡ length (pool_in (s.tasks m)) = found.many ∙ ap (λ o. length (pool_in o)) (sym found.present) in
-    let end : c.loop-k.-k ≡ length (pool_in (s.tasks m)) = omega arith in
+    let end : c.loop-k._k ≡ length (pool_in (s.tasks m)) = omega arith in
     record {
       result =
           ap (accepted held) (c.loop-k.invariant.state ∙ ap (returned s m) end ∙ all_returned s m)

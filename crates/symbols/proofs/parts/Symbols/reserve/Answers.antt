@@ -24,7 +24,7 @@ loop-k-preserved g c =
     let found = reserve_checked s.directory (length s.free.members) s.tasks m wanted checks in
     let fair = (g.F.Bag.sound c.args.self.now.free.now).fair in
     record {
-      state = c.draw.ensures.state ∙ ap (drawing m) c.loop-k.invariant.state ∙ one_drawn s m wanted found fair c.loop-k.-k (omega arith);
+      state = c.draw.ensures.state ∙ ap (drawing m) c.loop-k.invariant.state ∙ one_drawn s m wanted found fair c.loop-k._k (omega arith);
       lent = same_then g.M.CellMemory g.F.Bag g.C.Bag c.loop-k.invariant.lent c.draw.ensures.lent;
     }
 
@@ -35,7 +35,7 @@ returns g c =
     let wanted = c.in_ok-wanted.wanted in
     let count = c.count.ensures in
     let checks : Ok wanted ≡ reserve_checks s.directory (length s.free.members) s.tasks m = c.in_ok-wanted.ensures.checks ∙ ap (λ n. reserve_checks s.directory n s.tasks m) count in
-    let end : c.loop-k.-k ≡ wanted = omega arith in
+    let end : c.loop-k._k ≡ wanted = omega arith in
     record {
       result =
           ap (accepted wanted) (c.loop-k.invariant.state ∙ ap (reserving s m) end)

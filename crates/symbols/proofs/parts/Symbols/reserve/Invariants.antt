@@ -6,4 +6,4 @@ use Rattle.symbols.proofs.parts.Symbols.reserve.Given as goal
 abbrev pub invariant-loop-k : goal.invariant-loop-k
 invariant-loop-k g l =
     let view = state_of g.M.CellMemory g.F.Bag g.C.Bag in
-    Becomes g.M.CellMemory g.F.Bag g.C.Bag (reserving (view l.initial.self) l.m l.-k) l.initial.self l.self
+    Becomes g.M.CellMemory g.F.Bag g.C.Bag (reserving (view l.initial.self) l.m l._k) l.initial.self l.self

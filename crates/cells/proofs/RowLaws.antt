@@ -5,7 +5,7 @@ use Rattle.std.proofs.lemmas.Bool.{cases_eq, ltb-true}
 use Rattle.cells.specs.declared.Colour.{Colour}
 use Rattle.cells.specs.declared.board.CellRecord.{CellRecord}
 use Rattle.cells.specs.Memory.{coloured, recoloured, linked, relinked, fitting, settable}
-use Rattle.cells.specs.Codes.{code_of, word_of, table_of}
+use Rattle.cells.specs.Codes.{word_of, table_of}
 use Rattle.cells.specs.Rows.{blank, cells_in_rows, code_in_row, word_in_row, rows_mean, painted_row, relinked_row, rows_coloured, rows_linked}
 use Rattle.cells.proofs.Tables.{through_cond, settable_parts, table_recoloured, table_relinked}
 

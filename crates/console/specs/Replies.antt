@@ -1,5 +1,5 @@
 -- What each line of a script is answered, and what it makes of the symbol memory.
-use Rattle.std.specs.Prelude.{◌≡◌, ℕ, List, Ok, Err, Result, slice_index}
+use Rattle.std.specs.Prelude.{◌≡◌, ℕ, Ok, Err, Result, slice_index}
 use Rattle.cells.specs.declared.CellMemory.{Ghosts as MemoryGhosts}
 use Rattle.cells.specs.declared.Colour.{Colour}
 use Rattle.cells.specs.declared.MemoryRefusal.{MemoryRefusal}

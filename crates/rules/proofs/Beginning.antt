@@ -1,13 +1,10 @@
 -- The invariant holds of what an accepted set up leaves.
-use Rattle.std.proofs.Common.{◌≡◌, ℕ, zero, suc, ◌+◌, ◌-◌, ◌<◌, ◌≤◌, Bool, true, false, cond, not, ◌&&◌, ltb, leb, ◌≢◌, ◌⊎◌, List, [], ◌∷◌, length, Some, None, Ok, Err, Option, Result, sym, refl, ap, ◌∙◌, subst, inl, inr, ⊎_elim, arith}
+use Rattle.std.proofs.Common.{◌≡◌, ℕ, zero, suc, ◌+◌, ◌-◌, ◌<◌, ◌≤◌, true, false, cond, ◌&&◌, ltb, leb, ◌≢◌, ◌⊎◌, List, [], ◌∷◌, length, Some, None, Ok, Err, Result, sym, refl, ap, ◌∙◌, subst, inl, inr, ⊎_elim, arith}
 use Rattle.std.proofs.lemmas.Bool.Decides.{nat_tests}
-use Rattle.std.proofs.lemmas.Bool.{cases_lt, cond-true, cond_both, lt-ltb}
-use Rattle.cells.specs.declared.Colour.{Colour}
+use Rattle.std.proofs.lemmas.Bool.{cond-true, cond_both, lt-ltb}
 use Rattle.cells.specs.declared.Colour.TheVariants.{Blue, White, Black}
 use Rattle.cells.specs.Memory.{Sound as SoundMemory}
-use Rattle.rules.specs.declared.Stage.{Stage}
-use Rattle.rules.specs.declared.Stage.TheVariants.{Rest, Clear, Mark, Scan, Sweep}
-use Rattle.bags.specs.Holding.{Hold, Fair, Sound as SoundBag, one, copies, holding, has_room, has_member, put_into}
+use Rattle.bags.specs.Holding.{Hold, Fair, Sound as SoundBag, one, copies, holding, has_room}
 use Rattle.rules.specs.declared.Refusal.{Refusal}
 use Rattle.rules.specs.State.{Task, State, Outcome, accepted, by}
 use Rattle.rules.specs.SettingUp.{blank, rising, begun, fit_bags, set_up, set_up_checks}
@@ -16,9 +13,9 @@ use Rattle.rules.specs.Law.{JustSetUp}
 use Rattle.rules.proofs.Checked.{need_passed}
 use Rattle.rules.proofs.Ways.{reached_have}
 use Rattle.rules.proofs.Accounts.{Account, blueness}
-use Rattle.rules.proofs.Words.{Made, made_by, is_shaded, Shaded, UsedRoot, directory, register, kept, filled, Used, Busy, in-hand, in-cache, FirstHalf, SecondHalf, mark, scan}
+use Rattle.rules.proofs.Words.{Made, made_by, is_shaded, Shaded, UsedRoot, directory, register, kept, filled, Used, Busy, in-hand, in-cache, SecondHalf, mark, scan}
 use Rattle.rules.proofs.Places.{in_rest}
-use Rattle.rules.proofs.Invariant.{Structure, Control, Works, NewCells, Sweeps, MarksSecond, Invariant}
+use Rattle.rules.proofs.Invariant.{MarksSecond, Invariant}
 
 -- what the checks of a set up found
 pub record Fits (b : State) (d : ℕ) : Type 0 where

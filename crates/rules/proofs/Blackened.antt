@@ -1,5 +1,5 @@
 -- What blackening does to the colours, the cache and dirty, in the four ways it can go.
-use Rattle.std.proofs.Common.{◌≡◌, ℕ, ◌+◌, ◌<◌, ◌≤◌, Bool, true, false, cond, ◌||◌, eqb, ltb, ◌≢◌, ◌⊎◌, length, Some, None, Option, sym, refl, ap, ◌∙◌, subst, inl, inr, ⊎_elim, arith}
+use Rattle.std.proofs.Common.{◌≡◌, ℕ, ◌+◌, ◌<◌, Bool, true, false, eqb, ltb, ◌≢◌, ◌⊎◌, Some, None, Option, sym, refl, ap, ◌∙◌, subst, inl, inr, ⊎_elim, arith}
 use Rattle.std.proofs.lemmas.Bool.Decides.{nat_tests}
 use Rattle.std.proofs.lemmas.Bool.{cases_eq, cases_Bool, cond-true, cond-false, eq-eqb, ne_eqb, lt-ltb}
 use Rattle.cells.specs.declared.Colour.{Colour}
@@ -11,7 +11,7 @@ use Rattle.rules.specs.declared.Scanned.TheVariants.{Before as Unscanned, At as 
 use Rattle.rules.specs.State.{State, with_cells, with_cache, with_collector}
 use Rattle.rules.specs.Greying.{is_black}
 use Rattle.rules.specs.Changes.{with_dirty}
-use Rattle.rules.specs.Collecting.{overflowed, blacken, blacken_if}
+use Rattle.rules.specs.Collecting.{overflowed, blacken_if}
 use Rattle.rules.proofs.Words.{is_shaded}
 use Rattle.rules.proofs.Marking.{turned}
 

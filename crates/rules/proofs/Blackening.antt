@@ -1,8 +1,7 @@
 -- Blackening a cell that can be touched and is marked keeps the invariant, while hand, next directory cell and looked-at mark move on
 -- past that cell only.
-use Rattle.std.proofs.Common.{◌≡◌, ℕ, ◌+◌, ◌<◌, ◌≤◌, Bool, true, false, ltb, ◌≢◌, ◌⊎◌, length, Some, None, Option, sym, refl, ap, ◌∙◌, subst, inl, inr, ⊎_elim, arith}
-use Rattle.std.proofs.lemmas.Bool.Decides.{nat_tests}
-use Rattle.std.proofs.lemmas.Bool.{cases_eq, cases_lt, cases_Bool, ltb-true, lt-ltb}
+use Rattle.std.proofs.Common.{◌≡◌, ℕ, ◌<◌, ◌≤◌, Bool, true, false, ◌≢◌, ◌⊎◌, length, Some, None, Option, sym, ap, ◌∙◌, inl, inr, ⊎_elim, arith}
+use Rattle.std.proofs.lemmas.Bool.{cases_eq, cases_lt, lt-ltb}
 use Rattle.cells.specs.declared.Colour.{Colour}
 use Rattle.cells.specs.declared.Colour.TheVariants.{Grey, Black}
 use Rattle.bags.specs.Holding.{Hold, Fair, copies, has_room}
@@ -11,14 +10,14 @@ use Rattle.rules.specs.declared.Scanned.{Scanned}
 use Rattle.rules.specs.declared.Scanned.TheVariants.{At as ScannedAt}
 use Rattle.rules.specs.declared.Hand.{Hand}
 use Rattle.rules.specs.State.{State}
-use Rattle.rules.specs.Reach.{From, start, along}
+use Rattle.rules.specs.Reach.{start, along}
 use Rattle.rules.specs.Collecting.{overflowed}
 use Rattle.rules.proofs.Ways.{lead_into}
-use Rattle.rules.proofs.Words.{Made, is_shaded, Shaded, Kept, Used, Busy, in-hand, in-cache, InHand, Pending, cached, grey_in_mark, in-directory, ahead, at_scan, dirty, Follows, TracedRoot, pending, by_hand, Traced, Marked, FirstHalf, SecondHalf, mark, scan}
+use Rattle.rules.proofs.Words.{is_shaded, Shaded, Kept, Used, Busy, in-cache, InHand, Pending, cached, grey_in_mark, in-directory, ahead, at_scan, dirty, Follows, TracedRoot, pending, by_hand, Traced, Marked, FirstHalf, SecondHalf}
 use Rattle.rules.proofs.Invariant.{Invariant}
 use Rattle.rules.proofs.Touched.{in-hand-or-not}
 use Rattle.rules.proofs.Marking.{turned, WorksIn, shaded_on, kept_on}
-use Rattle.rules.proofs.GoingOn.{going, GoesOn, goes_on_kept}
+use Rattle.rules.proofs.GoingOn.{going, goes_on_kept}
 use Rattle.rules.proofs.Blackened.{Blackened, blackened_shaded, blackened_is_shaded, blackened_found, blackened_caches, blackened_cached, blackened_manner, blackened_black, blackened_dirty, overflowed_behind}
 
 pub scanned_same : {a b : ℕ} → ◌≡◌ {A = Scanned} (ScannedAt a) (ScannedAt b) → a ≡ b

@@ -1,7 +1,7 @@
 -- What a free list and a pool hold once cells went from the one to the other, or back.
 use Rattle.std.proofs.Common.{◌≡◌, ℕ, zero, suc, ◌+◌, ◌<◌, ◌≤◌, List, [], ◌∷◌, length, sym, refl, ap, ◌∙◌, subst, arith}
 use Rattle.std.proofs.lemmas.Bool.{cond-true, cond_both, lt-ltb}
-use Rattle.bags.specs.Holding.{Hold, Fair, one, copies, holding, has_room, has_member, put_into, taken_from}
+use Rattle.bags.specs.Holding.{Hold, Fair, copies, holding, has_room, has_member, put_into}
 use Rattle.rules.specs.Pools.{left, drawn, puts}
 
 pub left_manner : (k : ℕ) (h : Hold) → ((left k h).manner ≡ h.manner) × ((left k h).room ≡ h.room)

@@ -1,7 +1,7 @@
 -- A turn of the collector that stays in Mark or Scan, at its place there, keeps the invariant; taking a cell from the cache into the
 -- hand is one.
-use Rattle.std.proofs.Common.{◌≡◌, ℕ, ◌+◌, ◌<◌, ◌≤◌, Bool, true, false, cond, eqb, ltb, ◌≢◌, ◌⊎◌, length, Some, None, Option, sym, refl, ap, ◌∙◌, subst, inl, inr, ⊎_elim, arith}
-use Rattle.std.proofs.lemmas.Bool.{cases_eq, cond-true, cond-false, cond_both, eq-eqb, ne_eqb, ltb-true}
+use Rattle.std.proofs.Common.{◌≡◌, ℕ, ◌+◌, ◌<◌, Bool, true, eqb, ◌⊎◌, length, Some, None, Option, sym, refl, ap, ◌∙◌, subst, inl, inr, ⊎_elim, arith}
+use Rattle.std.proofs.lemmas.Bool.{cases_eq, cond-true, cond-false, ne_eqb, ltb-true}
 use Rattle.cells.specs.declared.Colour.{Colour}
 use Rattle.cells.specs.declared.Colour.TheVariants.{Black}
 use Rattle.bags.specs.Holding.{Hold, one, copies, has_member, holding, taken_from}
@@ -10,11 +10,11 @@ use Rattle.rules.specs.declared.Scanned.TheVariants.{At as ScannedAt}
 use Rattle.rules.specs.declared.Hand.{Hand}
 use Rattle.rules.specs.declared.Collector.{Collector}
 use Rattle.rules.specs.State.{State, with_cache}
-use Rattle.rules.specs.Reach.{From, start, along}
+use Rattle.rules.specs.Reach.{start, along}
 use Rattle.rules.specs.Collecting.{with_hand}
 use Rattle.rules.proofs.Ways.{reached_have}
-use Rattle.rules.proofs.Words.{Shaded, Kept, Used, Busy, in-hand, in-cache, InHand, Holding, ahead_of, Pending, cached, grey_in_mark, in-directory, ahead, at_scan, dirty, Follows, TracedRoot, pending, by_hand, Traced, Marked, FirstHalf, SecondHalf, SecondHalfOf, mark, scan}
-use Rattle.rules.proofs.Invariant.{Control, MarksFirst, MarksSecond, Invariant}
+use Rattle.rules.proofs.Words.{Shaded, Kept, Busy, in-cache, InHand, ahead_of, Pending, cached, grey_in_mark, in-directory, ahead, at_scan, dirty, Follows, TracedRoot, pending, by_hand, Traced, Marked, FirstHalf, SecondHalf, mark, scan}
+use Rattle.rules.proofs.Invariant.{Control, Invariant}
 use Rattle.rules.proofs.Marking.{turned, WorksIn, Shades, shaded_on, marking_turn, second_goes_on}
 
 -- the collector at the same place of the same stage

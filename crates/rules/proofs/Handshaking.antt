@@ -1,20 +1,18 @@
 -- The collector's turns in Rest and Clear keep the invariant.
-use Rattle.std.proofs.Common.{◌≡◌, ℕ, zero, suc, ◌+◌, ◌<◌, ◌≤◌, Bool, true, false, cond, ◌&&◌, ◌≢◌, ◌⊎◌, Some, None, Option, sym, refl, ap, ◌∙◌, subst, inl, inr, ⊎_elim, arith}
-use Rattle.std.proofs.lemmas.Bool.Decides.{nat_tests}
+use Rattle.std.proofs.Common.{◌≡◌, ℕ, zero, suc, ◌<◌, ◌≤◌, true, false, ◌≢◌, Some, Option, sym, refl, ap, ◌∙◌, subst, inl, inr, ⊎_elim, arith}
 use Rattle.std.proofs.lemmas.Bool.{cases_eq, cases_lt, cases_Bool, cond-true, cond-false, and_parts}
 use Rattle.bags.specs.Holding.{Hold}
 use Rattle.rules.specs.declared.Status.{Status}
-use Rattle.rules.specs.declared.Status.TheVariants.{Async, Sync1, Sync2}
-use Rattle.rules.specs.declared.Stage.TheVariants.{Rest, Clear, Mark, Scan, Sweep}
+use Rattle.rules.specs.declared.Status.TheVariants.{Sync1, Sync2}
+use Rattle.rules.specs.declared.Stage.TheVariants.{Rest, Clear, Mark, Scan}
 use Rattle.rules.specs.declared.Swept.TheVariants.{Before}
 use Rattle.rules.specs.declared.Collector.{Collector}
 use Rattle.rules.specs.State.{Task, State, Outcome, with_collector}
-use Rattle.rules.specs.Greying.{same_status}
 use Rattle.rules.specs.Collecting.{agrees, agree_to, all_agree, rest, clearing}
 use Rattle.rules.proofs.TaskTurns.{same_status_lem}
 use Rattle.rules.proofs.Words.{made_by, Traces, in-hand, in-cache, SecondHalfOf, mark, scan}
 use Rattle.rules.proofs.Places.{placed, in-clear, in-mark}
-use Rattle.rules.proofs.Invariant.{Structure, Control, Works, NewCells, Sweeps, MarksFirst, MarksSecond, Invariant}
+use Rattle.rules.proofs.Invariant.{Structure, Control, Works, Sweeps, MarksSecond, Invariant}
 
 -- what does not look at the collector
 pub structure_same : (s : State) (co : Collector) → Structure s → Structure (with_collector s co)

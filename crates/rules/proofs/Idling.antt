@@ -1,12 +1,12 @@
 -- A turn that leaves another task without unfinished work in a slot, or none, keeps the invariant, if free list and pool hold
 -- together what they held.
-use Rattle.std.proofs.Common.{◌≡◌, ℕ, ◌+◌, ◌<◌, ◌≤◌, Bool, true, false, ◌≢◌, ◌⊎◌, length, Some, None, Option, sym, refl, ap, ◌∙◌, subst, inl, inr, ⊎_elim, arith}
+use Rattle.std.proofs.Common.{◌≡◌, ℕ, ◌+◌, ◌<◌, ◌≤◌, ◌⊎◌, length, Some, None, Option, sym, refl, ap, ◌∙◌, subst, ⊎_elim, arith}
 use Rattle.cells.specs.Memory.{at}
 use Rattle.bags.specs.Holding.{Hold, Fair, copies}
 use Rattle.rules.specs.declared.Status.TheVariants.{Async}
 use Rattle.rules.specs.declared.Work.{Work}
 use Rattle.rules.specs.State.{Task, State, with_free, with_task}
-use Rattle.rules.specs.Reach.{From, start, along, Names}
+use Rattle.rules.specs.Reach.{start, along}
 use Rattle.rules.specs.Pools.{pool_in}
 use Rattle.rules.proofs.Ways.{lead_into}
 use Rattle.rules.proofs.Slots.{at_cases, at_other, pooled_swap}

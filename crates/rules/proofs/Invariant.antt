@@ -1,12 +1,11 @@
 -- What is to last from moment to moment of a run, and carries its three promises.
-use Rattle.std.proofs.Common.{◌≡◌, ℕ, ◌+◌, ◌-◌, ◌<◌, ◌≤◌, Bool, true, false, ◌≢◌, ◌⊎◌, length, Some, None, Option}
-use Rattle.cells.specs.declared.Colour.TheVariants.{Blue, White, Grey, Black}
+use Rattle.std.proofs.Common.{◌≡◌, ℕ, ◌+◌, ◌<◌, ◌≤◌, Bool, true, false, ◌≢◌, ◌⊎◌, length, Some, None, Option}
+use Rattle.cells.specs.declared.Colour.TheVariants.{Blue, White, Black}
 use Rattle.cells.specs.Memory.{Sound as SoundMemory}
 use Rattle.bags.specs.Holding.{copies, Fair}
-use Rattle.rules.specs.declared.Status.TheVariants.{Async, Sync1, Sync2}
+use Rattle.rules.specs.declared.Status.TheVariants.{Async, Sync2}
 use Rattle.rules.specs.declared.Stage.TheVariants.{Rest, Clear, Mark, Scan, Sweep}
-use Rattle.rules.specs.declared.Swept.TheVariants.{Before, At, Past}
-use Rattle.rules.specs.declared.Scanned.TheVariants.{Before as Unscanned, At as ScannedAt}
+use Rattle.rules.specs.declared.Scanned.TheVariants.{At as ScannedAt}
 use Rattle.rules.specs.declared.Step.{Step}
 use Rattle.rules.specs.declared.Step.TheVariants.{Grey as GreyStep, Warn, Store}
 use Rattle.rules.specs.declared.Work.{Work}

@@ -1,12 +1,12 @@
 -- The sweep's look at a cell keeps the invariant: what is marked becomes White, and what is not becomes free.
-use Rattle.std.proofs.Common.{◌≡◌, ℕ, ◌+◌, ◌-◌, ◌<◌, ◌≤◌, Bool, true, false, eqb, ltb, ◌≢◌, ◌⊎◌, List, [], ◌∷◌, length, Some, None, sym, refl, ap, ◌∙◌, subst, inl, inr, ⊎_elim, arith}
+use Rattle.std.proofs.Common.{◌≡◌, ℕ, ◌+◌, ◌<◌, ◌≤◌, true, false, eqb, ltb, ◌≢◌, ◌⊎◌, List, [], ◌∷◌, length, Some, sym, refl, ap, ◌∙◌, subst, inl, inr, ⊎_elim, arith}
 use Rattle.std.proofs.lemmas.Bool.{cases_eq, cases_lt, cond-true, cond-false, eq-eqb, ne_eqb, lt-ltb}
 use Rattle.cells.specs.declared.Colour.{Colour}
 use Rattle.cells.specs.declared.Colour.TheVariants.{Blue, White, Grey, Black}
-use Rattle.cells.specs.Memory.{Cells, at, coloured, recoloured}
+use Rattle.cells.specs.Memory.{at, coloured, recoloured}
 use Rattle.bags.specs.Holding.{Hold, Fair, one, copies, has_room, holding, put_into}
 use Rattle.rules.specs.declared.Status.TheVariants.{Async}
-use Rattle.rules.specs.declared.Stage.TheVariants.{Rest, Clear, Mark, Scan, Sweep}
+use Rattle.rules.specs.declared.Stage.TheVariants.{Sweep}
 use Rattle.rules.specs.declared.Swept.TheVariants.{At}
 use Rattle.rules.specs.State.{State, Task, with_cells, with_free}
 use Rattle.rules.specs.Law.{copies_pooled}
@@ -15,8 +15,8 @@ use Rattle.rules.specs.Collecting.{with_looked, swept}
 use Rattle.rules.proofs.States.{at_as_it_was}
 use Rattle.rules.proofs.Ways.{lead_into}
 use Rattle.rules.proofs.Accounts.{blueness, one_more_fits}
-use Rattle.rules.proofs.Words.{Made, is_shaded, Shaded, Kept, Used, UsedRoot, directory, register, kept, filled, Busy, in-hand, in-cache, PassedBy, behind, looked_at, Passed, FirstHalf, SecondHalf, mark, scan}
-use Rattle.rules.proofs.Invariant.{Structure, Control, Works, NewCells, Sweeps, MarksFirst, MarksSecond, Invariant}
+use Rattle.rules.proofs.Words.{Made, is_shaded, Shaded, Used, UsedRoot, directory, register, kept, filled, Busy, in-hand, in-cache, PassedBy, behind, looked_at, Passed, SecondHalf, mark, scan}
+use Rattle.rules.proofs.Invariant.{Structure, Control, MarksSecond, Invariant}
 use Rattle.rules.proofs.Handshaking.{traces_same}
 use Rattle.rules.proofs.SweepingOn.{at_same}
 

@@ -1,23 +1,21 @@
 -- A turn of the collector that shades cells which can be touched, and begins and ends in Mark or Scan, keeps the invariant, if what
 -- it says of its own cells and of the marking is shown.
-use Rattle.std.proofs.Common.{◌≡◌, ℕ, ◌+◌, ◌<◌, ◌≤◌, Bool, true, false, ◌≢◌, ◌⊎◌, length, Some, None, sym, refl, ap, ◌∙◌, subst, inl, inr, ⊎_elim, arith}
+use Rattle.std.proofs.Common.{◌≡◌, ℕ, ◌<◌, Bool, true, false, ◌≢◌, ◌⊎◌, Some, sym, refl, ap, ◌∙◌, subst, inl, inr, ⊎_elim, arith}
 use Rattle.cells.specs.declared.Colour.{Colour}
 use Rattle.cells.specs.declared.Colour.TheVariants.{Blue, White, Grey, Black}
-use Rattle.cells.specs.Memory.{Cells}
 use Rattle.bags.specs.Holding.{Hold, Fair, copies}
-use Rattle.rules.specs.declared.Status.TheVariants.{Async, Sync1}
+use Rattle.rules.specs.declared.Status.TheVariants.{Async}
 use Rattle.rules.specs.declared.Stage.{Stage}
 use Rattle.rules.specs.declared.Stage.TheVariants.{Rest, Clear, Mark, Scan, Sweep}
 use Rattle.rules.specs.declared.Hand.{Hand}
 use Rattle.rules.specs.declared.Work.TheVariants.{Making}
 use Rattle.rules.specs.declared.Collector.{Collector}
 use Rattle.rules.specs.State.{Task, State}
-use Rattle.rules.specs.Reach.{From, start, along, Names}
+use Rattle.rules.specs.Reach.{start, along}
 use Rattle.rules.proofs.Accounts.{blueness}
 use Rattle.rules.proofs.Ways.{lead_into, reached_have}
-use Rattle.rules.proofs.Touched.{marked_used, shaded_kept}
-use Rattle.rules.proofs.Words.{Made, made_by, is_shaded, Shaded, Kept, Used, UsedRoot, directory, register, kept, filled, Busy, InHand, Holding, ahead_of, Pending, cached, grey_in_mark, in-directory, ahead, at_scan, dirty, Follows, TracedRoot, pending, by_hand, Traced, Marked, FirstHalf, SecondHalf}
-use Rattle.rules.proofs.Invariant.{Structure, Control, Works, NewCells, Sweeps, MarksFirst, MarksSecond, Invariant}
+use Rattle.rules.proofs.Words.{Made, made_by, is_shaded, Shaded, Kept, Used, UsedRoot, directory, register, kept, filled, ahead_of, Pending, cached, grey_in_mark, in-directory, ahead, at_scan, dirty, TracedRoot, pending, by_hand, Traced, Marked, FirstHalf, SecondHalf}
+use Rattle.rules.proofs.Invariant.{Structure, Control, Works, MarksFirst, MarksSecond, Invariant}
 
 -- the state with other colours, another cache and another collector
 abbrev pub turned : State → (ℕ → Colour) → Hold → Collector → State

@@ -1,12 +1,12 @@
 -- The invariant gives the first and the third promise at its moment.
-use Rattle.std.proofs.Common.{◌≡◌, ℕ, ◌<◌, ◌≢◌, ◌⊎◌, sym, refl, ap, ◌∙◌, inl, inr, ⊎_elim}
+use Rattle.std.proofs.Common.{ℕ, ◌≢◌, ◌⊎◌, inl, inr, ⊎_elim}
 use Rattle.cells.specs.declared.Colour.TheVariants.{Blue}
 use Rattle.rules.specs.State.{State}
-use Rattle.rules.specs.Reach.{From, start, along, Root, directory, register, making, Names, InReach}
+use Rattle.rules.specs.Reach.{start, along, directory, register, making, InReach}
 use Rattle.rules.specs.Law.{NoneFreed, HeldOnce}
 use Rattle.rules.proofs.Numbers.{none_of}
 use Rattle.rules.proofs.Accounts.{held_once}
-use Rattle.rules.proofs.Words.{Made, made_by, UsedRoot, directory as used-directory, register as used-register, filled, Used}
+use Rattle.rules.proofs.Words.{Made, made_by, directory as used-directory, register as used-register, filled, Used}
 use Rattle.rules.proofs.Invariant.{Invariant}
 
 -- what is in reach can be touched next, or is being made

@@ -1,5 +1,5 @@
 -- The turns of Mark that go on to the next phase keep the invariant; the first of them begins the second half of marking.
-use Rattle.std.proofs.Common.{◌≡◌, ℕ, zero, suc, ◌+◌, ◌<◌, ◌≤◌, Bool, true, false, ◌&&◌, ◌||◌, eqb, ◌≢◌, ◌⊎◌, Some, None, Option, sym, refl, ap, ◌∙◌, subst, inl, inr, ⊎_elim, arith}
+use Rattle.std.proofs.Common.{◌≡◌, ℕ, zero, suc, ◌<◌, ◌≤◌, Bool, true, false, ◌&&◌, ◌||◌, eqb, ◌≢◌, ◌⊎◌, Some, None, Option, sym, refl, ap, ◌∙◌, subst, inl, inr, ⊎_elim, arith}
 use Rattle.std.proofs.lemmas.Bool.Decides.{nat_tests}
 use Rattle.std.proofs.lemmas.Bool.{cases_eq, cases_lt, cases_Bool, and_parts, eq-eqb}
 use Rattle.cells.specs.declared.Colour.{Colour}
@@ -7,17 +7,16 @@ use Rattle.cells.specs.declared.Colour.TheVariants.{Blue, White, Grey, Black}
 use Rattle.bags.specs.Holding.{copies}
 use Rattle.rules.specs.declared.Status.{Status}
 use Rattle.rules.specs.declared.Status.TheVariants.{Async, Sync1, Sync2}
-use Rattle.rules.specs.declared.Stage.TheVariants.{Rest, Clear, Mark, Scan, Sweep}
+use Rattle.rules.specs.declared.Stage.TheVariants.{Mark, Scan}
 use Rattle.rules.specs.declared.Step.{Step}
 use Rattle.rules.specs.declared.Work.{Work}
 use Rattle.rules.specs.declared.Work.TheVariants.{Change, Making}
 use Rattle.rules.specs.declared.Collector.{Collector}
 use Rattle.rules.specs.State.{State, Task, with_collector}
-use Rattle.rules.specs.Reach.{From, start, along}
-use Rattle.rules.specs.Greying.{same_status}
+use Rattle.rules.specs.Reach.{start, along}
 use Rattle.rules.specs.Collecting.{after_sync, all_agree, next_phase}
 use Rattle.rules.proofs.Ways.{lead_into}
-use Rattle.rules.proofs.Words.{is_shaded, Shaded, Kept, Used, directory, register, kept, Holding, ahead_of, Pending, cached, grey_in_mark, in-directory, ahead, at_scan, dirty, Follows, TracedRoot, pending, by_hand, Traced, Marked, FirstHalf, SecondHalf, mark, scan}
+use Rattle.rules.proofs.Words.{is_shaded, Shaded, Kept, Used, directory, register, Holding, ahead_of, cached, grey_in_mark, in-directory, ahead, at_scan, dirty, Follows, TracedRoot, pending, by_hand, Traced, Marked, FirstHalf, SecondHalf, mark}
 use Rattle.rules.proofs.Places.{placed, in-mark}
 use Rattle.rules.proofs.Invariant.{Control, MarksFirst, MarksSecond, Invariant}
 use Rattle.rules.proofs.Touched.{in-hand-or-not, kept_used, traced_used, shaded_kept}

@@ -1,12 +1,11 @@
 -- Reserve and give back keep the invariant.
-use Rattle.std.proofs.Common.{◌≡◌, ℕ, zero, suc, ◌+◌, ◌-◌, ◌<◌, ◌≤◌, ◌⊎◌, List, [], ◌∷◌, length, Some, None, Ok, Option, sym, refl, ap, ◌∙◌, subst, inl, inr, ⊎_elim, arith}
-use Rattle.std.proofs.lemmas.Bool.{cases_lt}
-use Rattle.bags.specs.Holding.{Hold, copies}
-use Rattle.rules.specs.State.{Task, State, with_free, with_task, with_pool, has_slot}
-use Rattle.rules.specs.Pools.{drawn, with_drawn, with_pool_of, pool_in, puts, left, reserving, reserve, reserve_checks, give_back, give_back_checks}
+use Rattle.std.proofs.Common.{◌≡◌, ℕ, ◌+◌, ◌≤◌, List, [], length, Some, None, sym, ap, ◌∙◌, subst, arith}
+use Rattle.bags.specs.Holding.{copies}
+use Rattle.rules.specs.State.{Task, State, with_pool, has_slot}
+use Rattle.rules.specs.Pools.{drawn, with_drawn, with_pool_of, pool_in, puts, left, reserve, reserve_checks, give_back, give_back_checks}
 use Rattle.rules.specs.Reach.{start}
 use Rattle.rules.proofs.Checked.{need_passed, idle_passed, below_eight, is_idle_lem, reserve_checked}
-use Rattle.rules.proofs.Drawn.{left_manner, left_count, drawn_count, drawn_copies, puts_manner, puts_copies}
+use Rattle.rules.proofs.Drawn.{left_manner, drawn_count, drawn_copies, puts_manner, puts_copies}
 use Rattle.rules.proofs.Accounts.{members_fit}
 use Rattle.rules.proofs.Words.{directory, register}
 use Rattle.rules.proofs.Invariant.{Invariant}

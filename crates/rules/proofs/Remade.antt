@@ -1,5 +1,5 @@
 -- Where the same cells are being made, the same are kept and marked.
-use Rattle.std.proofs.Common.{◌≡◌, ℕ, Bool, ◌⊎◌, inl, inr, ⊎_elim}
+use Rattle.std.proofs.Common.{ℕ, Bool, inl, inr}
 use Rattle.cells.specs.Memory.{Cells}
 use Rattle.bags.specs.Holding.{Hold}
 use Rattle.rules.specs.declared.Collector.{Collector}

@@ -1,21 +1,21 @@
 -- The scan's way through the cells keeps the invariant: its beginning, its step to the next cell, its return to the first, and its end,
 -- where every cell that can be touched is found.
-use Rattle.std.proofs.Common.{◌≡◌, ℕ, ◌+◌, ◌<◌, ◌≤◌, Bool, true, false, ◌≢◌, ◌⊎◌, List, [], ◌∷◌, length, Some, None, sym, refl, ap, ◌∙◌, subst, inl, inr, ⊎_elim, arith}
-use Rattle.std.proofs.lemmas.Bool.{cases_eq, cases_lt}
+use Rattle.std.proofs.Common.{◌≡◌, ℕ, ◌+◌, ◌<◌, ◌≤◌, Bool, true, false, List, [], ◌∷◌, length, Some, None, sym, refl, ap, ◌∙◌, inl, inr, ⊎_elim, arith}
+use Rattle.std.proofs.lemmas.Bool.{cases_eq}
 use Rattle.cells.specs.declared.Colour.TheVariants.{White, Grey}
-use Rattle.bags.specs.Holding.{Hold, copies, has_member}
+use Rattle.bags.specs.Holding.{copies, has_member}
 use Rattle.rules.specs.declared.Status.TheVariants.{Async, Sync1, Sync2}
-use Rattle.rules.specs.declared.Stage.TheVariants.{Rest, Clear, Mark, Scan, Sweep}
+use Rattle.rules.specs.declared.Stage.TheVariants.{Mark, Scan}
 use Rattle.rules.specs.declared.Swept.{Swept}
 use Rattle.rules.specs.declared.Swept.TheVariants.{Before, At}
 use Rattle.rules.specs.declared.Scanned.TheVariants.{At as ScannedAt}
 use Rattle.rules.specs.State.{State, Task}
-use Rattle.rules.specs.Reach.{From, start, along}
+use Rattle.rules.specs.Reach.{start, along}
 use Rattle.rules.specs.Collecting.{scan_from, sweep_from}
 use Rattle.rules.proofs.Ways.{lead_into, reached_have}
-use Rattle.rules.proofs.Words.{Made, made_by, Kept, Used, UsedRoot, directory, register, kept, filled, Busy, Traces, in-hand, in-cache, PassedBy, behind, looked_at, Pending, cached, grey_in_mark, in-directory, ahead, at_scan, dirty, Follows, TracedRoot, pending, by_hand, Traced, Marked, SecondHalf, mark, scan}
+use Rattle.rules.proofs.Words.{Made, made_by, Kept, Used, UsedRoot, directory, register, kept, filled, Busy, PassedBy, behind, looked_at, Pending, cached, grey_in_mark, in-directory, ahead, at_scan, dirty, Follows, TracedRoot, pending, by_hand, Traced, Marked, SecondHalf, mark, scan}
 use Rattle.rules.proofs.Places.{placed, in-scan, in-sweep}
-use Rattle.rules.proofs.Invariant.{Control, MarksSecond, Invariant}
+use Rattle.rules.proofs.Invariant.{MarksSecond, Invariant}
 use Rattle.rules.proofs.Touched.{kept_used}
 use Rattle.rules.proofs.Handshaking.{quiet_turn, traces_same}
 use Rattle.rules.proofs.Marking.{WorksIn, marking_turn, second_goes_on}

@@ -1,5 +1,5 @@
 -- A state with another task in a slot, read and written again.
-use Rattle.std.proofs.Common.{◌≡◌, ℕ, cond, eqb, Ok, Option, Result, sym, refl, ap, ◌∙◌, ⊎_elim}
+use Rattle.std.proofs.Common.{◌≡◌, ℕ, eqb, Ok, Option, Result, sym, refl, ap, ◌∙◌, ⊎_elim}
 use mathlib.Core.Path.{fun_ext}
 use Rattle.std.proofs.lemmas.Bool.{cases_eq, cond-true, cond-false, eq-eqb, ne_eqb}
 use Rattle.cells.specs.Memory.{at}

@@ -1,17 +1,16 @@
 -- The sweep's step to the next cell, and its return to Rest, keep the invariant.
-use Rattle.std.proofs.Common.{◌≡◌, ℕ, ◌+◌, ◌<◌, ◌≤◌, true, false, ◌≢◌, ◌⊎◌, sym, refl, ap, ◌∙◌, subst, inl, inr, ⊎_elim, arith}
+use Rattle.std.proofs.Common.{◌≡◌, ℕ, ◌+◌, ◌<◌, ◌≤◌, true, sym, refl, ap, ◌∙◌, ⊎_elim, arith}
 use Rattle.std.proofs.lemmas.Bool.{cases_eq, cases_lt}
-use Rattle.cells.specs.declared.Colour.TheVariants.{White, Black}
-use Rattle.rules.specs.declared.Status.TheVariants.{Async}
-use Rattle.rules.specs.declared.Stage.TheVariants.{Rest, Clear, Mark, Scan, Sweep}
+use Rattle.cells.specs.declared.Colour.TheVariants.{Black}
+use Rattle.rules.specs.declared.Stage.TheVariants.{Rest, Sweep}
 use Rattle.rules.specs.declared.Swept.{Swept}
-use Rattle.rules.specs.declared.Swept.TheVariants.{Before, At, Past}
+use Rattle.rules.specs.declared.Swept.TheVariants.{At, Past}
 use Rattle.rules.specs.State.{State}
 use Rattle.rules.specs.Collecting.{sweep_to}
 use Rattle.rules.proofs.Handshaking.{quiet_turn, traces_same}
 use Rattle.rules.proofs.Words.{PassedBy, behind, looked_at, Passed}
 use Rattle.rules.proofs.Places.{placed, in_rest, in-sweep}
-use Rattle.rules.proofs.Invariant.{Control, Sweeps, Invariant}
+use Rattle.rules.proofs.Invariant.{Invariant}
 
 pub at_same : {a b : ℕ} → ◌≡◌ {A = Swept} (At a) (At b) → a ≡ b
 at_same e = cc

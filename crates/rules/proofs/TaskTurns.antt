@@ -1,5 +1,5 @@
 -- The turns that begin and end tasks and move registers keep the invariant: enter, launch, leave, point, move, clear and load.
-use Rattle.std.proofs.Common.{◌≡◌, ℕ, ◌+◌, ◌<◌, ◌≤◌, Bool, true, false, cond, ltb, ◌⊎◌, List, [], ◌∷◌, length, Some, None, Ok, Err, Option, Result, sym, refl, ap, ◌∙◌, subst, inl, inr, ⊎_elim, arith}
+use Rattle.std.proofs.Common.{◌≡◌, ℕ, ◌<◌, Bool, true, false, cond, ltb, List, [], ◌∷◌, Some, None, Ok, Err, Option, Result, sym, refl, ap, ◌∙◌, subst, inl, ⊎_elim, arith}
 use Rattle.std.proofs.lemmas.Bool.{ltb-true}
 use Rattle.rules.specs.declared.Status.{Status}
 use Rattle.rules.specs.declared.Status.TheVariants.{Async, Sync1, Sync2}
@@ -9,7 +9,7 @@ use Rattle.rules.specs.State.{Task, State, Outcome, by, with_task, with_register
 use Rattle.rules.specs.Tasks.{new_task, vacant, with_held, is_empty, cell_in, enter, leave, point, move, clear, load, enter_checks, leave_checks, point_checks, move_checks, clear_checks, load_checks}
 use Rattle.rules.specs.Pools.{pool_in}
 use Rattle.rules.specs.Greying.{same_status}
-use Rattle.rules.specs.Handshake.{bit, chosen, launched, launch, launch_checks, launch_from}
+use Rattle.rules.specs.Handshake.{bit, launched, launch, launch_checks, launch_from}
 use Rattle.rules.specs.Reach.{start, along}
 use Rattle.rules.proofs.Checked.{need_passed, idle_passed, ok_same, below_eight, is_idle_lem}
 use Rattle.rules.proofs.Slots.{at_cases, at_other}

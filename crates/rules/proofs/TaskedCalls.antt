@@ -10,7 +10,7 @@ use Rattle.rules.specs.Tasks.{new_task, holds, cell_in, enter, leave, point, mov
 use Rattle.rules.specs.Pools.{drawn, reserve, reserve_checks, give_back, give_back_checks}
 use Rattle.rules.specs.Greying.{same_status}
 use Rattle.rules.specs.Handshake.{bit, chosen, launched, launch, launch_checks, registers_in, replying, cooperate, cooperate_checks}
-use Rattle.rules.specs.Reach.{start, along, directory, register, making, InReach}
+use Rattle.rules.specs.Reach.{start, along, directory, register, InReach}
 use Rattle.rules.proofs.Slots.{at_cases}
 use Rattle.rules.proofs.Checked.{need_passed, idle_passed, ok_same}
 use Rattle.rules.proofs.Painted.{Paints, unpainted, greyed_all_paint}

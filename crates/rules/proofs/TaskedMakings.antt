@@ -18,7 +18,7 @@ use Rattle.rules.specs.Pools.{pool_in}
 use Rattle.rules.specs.Makings.{newest_of, make_checks, begin_making, make, making_in, of_making, fill_checks, fill, finish_checks, finish, scrap_checks, scrap}
 use Rattle.rules.specs.Changes.{changed_cell, change_checks, first_step, greyed_old, status_in, change, owed_work, owed, carry_on_checks, stepping, carrying, carry_on}
 use Rattle.rules.specs.Law.{copies_pooled}
-use Rattle.rules.specs.Reach.{start, along, directory, register, making, InReach}
+use Rattle.rules.specs.Reach.{start, along, register, making, InReach}
 use Rattle.rules.specs.Turns.{rule_of}
 use Rattle.rules.proofs.Slots.{at_cases}
 use Rattle.rules.proofs.Checked.{need_passed, idle_passed, ok_same, below_eight}

@@ -1,12 +1,12 @@
 -- What the marking has found or is still to find can be touched, so it is in the table, not free and not being made.
-use Rattle.std.proofs.Common.{◌≡◌, ℕ, ◌<◌, ◌≤◌, Bool, true, false, ◌≢◌, ◌⊎◌, Some, None, Option, sym, refl, ap, ◌∙◌, subst, inl, inr, ⊎_elim, arith}
+use Rattle.std.proofs.Common.{◌≡◌, ℕ, ◌<◌, ◌≤◌, Bool, ◌⊎◌, Some, None, Option, sym, refl, ap, ◌∙◌, inl, inr, ⊎_elim, arith}
 use Rattle.std.proofs.lemmas.Bool.{cases_eq, cases_lt}
 use Rattle.rules.specs.declared.Hand.{Hand}
 use Rattle.rules.specs.declared.Collector.{Collector}
 use Rattle.rules.specs.State.{State}
-use Rattle.rules.specs.Reach.{From, start, along}
+use Rattle.rules.specs.Reach.{start, along}
 use Rattle.rules.proofs.Ways.{reached_have}
-use Rattle.rules.proofs.Words.{Made, Shaded, Kept, Used, UsedRoot, directory, kept, Pending, Traced, TracedRoot, pending, by_hand, Marked, cached, grey_in_mark, in-directory, ahead, at_scan, dirty, ahead_of, Holding}
+use Rattle.rules.proofs.Words.{Shaded, Kept, Used, directory, kept, Pending, Traced, TracedRoot, pending, by_hand, Marked, cached, grey_in_mark, in-directory, ahead, at_scan, dirty, ahead_of, Holding}
 use Rattle.rules.proofs.Invariant.{Invariant}
 
 hand_same : {a b : Hand} → ◌≡◌ {A = Option Hand} (Some a) (Some b) → a ≡ b

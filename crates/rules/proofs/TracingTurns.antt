@@ -1,5 +1,5 @@
 -- The turns that blacken keep the invariant: a link followed from the hand, a directory cell, and a look at the cell at scanned.
-use Rattle.std.proofs.Common.{◌≡◌, ℕ, ◌+◌, ◌<◌, ◌≤◌, Bool, true, false, cond, ltb, ◌≢◌, ◌⊎◌, length, Some, None, Option, sym, refl, ap, ◌∙◌, subst, inl, inr, ⊎_elim, arith}
+use Rattle.std.proofs.Common.{◌≡◌, ℕ, ◌+◌, ◌<◌, ◌≤◌, Bool, true, false, ltb, ◌≢◌, ◌⊎◌, length, Some, None, Option, sym, refl, ap, ◌∙◌, subst, inl, inr, ⊎_elim, arith}
 use Rattle.std.proofs.lemmas.Bool.{cases_eq, cases_lt, cases_Bool, cond-true, cond-false, lt-ltb, ltb-true}
 use Rattle.cells.specs.declared.Colour.{Colour}
 use Rattle.cells.specs.declared.Colour.TheVariants.{Blue, White, Grey, Black}
@@ -12,11 +12,11 @@ use Rattle.rules.specs.State.{State, Outcome}
 use Rattle.rules.specs.Greying.{is_grey}
 use Rattle.rules.specs.Reach.{start, along}
 use Rattle.rules.specs.Collecting.{blacken, blacken_if, next_hand, with_hand, with_next, with_looked, tracing, looking}
-use Rattle.rules.proofs.Words.{Made, made_by, is_shaded, Shaded, Kept, Used, directory, kept, Busy, Traces, in-hand, in-cache, InHand, Holding, ahead_of, Marked, SecondHalf}
+use Rattle.rules.proofs.Words.{Made, made_by, is_shaded, Kept, Used, directory, kept, Busy, Traces, in-hand, in-cache, InHand, Holding, ahead_of}
 use Rattle.rules.proofs.Invariant.{Invariant}
 use Rattle.rules.proofs.Marking.{WorksIn}
 use Rattle.rules.proofs.GoingOn.{going, take_kept}
-use Rattle.rules.proofs.Blackened.{Blackened, nothing, blackened_by_rule, blackened_shaded, blackened_is_shaded}
+use Rattle.rules.proofs.Blackened.{nothing, blackened_by_rule, blackened_shaded, blackened_is_shaded}
 use Rattle.rules.proofs.Blackening.{blackening_kept, scanned_same}
 
 some_same : {a b : Hand} → ◌≡◌ {A = Option Hand} (Some a) (Some b) → a ≡ b

@@ -1,18 +1,18 @@
 -- The words that the invariant of a run is told in. They look at the parts of a state that they need, so that a turn which
 -- leaves a part alone leaves them alone.
-use Rattle.std.proofs.Common.{◌≡◌, ℕ, ◌<◌, ◌≤◌, Bool, true, false, ◌≢◌, ◌⊎◌, length, Some, None, Option, inl, inr, ⊎_elim}
+use Rattle.std.proofs.Common.{◌≡◌, ℕ, ◌<◌, ◌≤◌, Bool, true, false, ◌≢◌, ◌⊎◌, length, Some, None, Option}
 use Rattle.cells.specs.declared.Colour.{Colour}
 use Rattle.cells.specs.declared.Colour.TheVariants.{Blue, White, Grey, Black}
 use Rattle.cells.specs.Memory.{Cells}
 use Rattle.bags.specs.Holding.{Hold, copies}
-use Rattle.rules.specs.declared.Status.TheVariants.{Async, Sync1, Sync2}
-use Rattle.rules.specs.declared.Stage.TheVariants.{Mark, Scan, Sweep}
+use Rattle.rules.specs.declared.Status.TheVariants.{Sync1}
+use Rattle.rules.specs.declared.Stage.TheVariants.{Mark, Scan}
 use Rattle.rules.specs.declared.Swept.TheVariants.{At}
 use Rattle.rules.specs.declared.Scanned.TheVariants.{At as ScannedAt}
 use Rattle.rules.specs.declared.Collector.{Collector}
 use Rattle.rules.specs.declared.Work.TheVariants.{Making}
 use Rattle.rules.specs.State.{Task, State}
-use Rattle.rules.specs.Reach.{From, start, along, Names}
+use Rattle.rules.specs.Reach.{From, Names}
 
 -- x is being made
 pub data MadeBy (tasks : ℕ → Option Task) (x : ℕ) : Type 0 where

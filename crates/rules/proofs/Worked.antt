@@ -1,15 +1,12 @@
 -- The worked examples hold of the definitions.
-use Rattle.std.proofs.Common.{◌≡◌, ℕ, zero, suc, ◌+◌, ◌<◌, ◌≤◌, Bool, true, false, cond, ◌&&◌, ◌||◌, ltb, leb, List, [], ◌∷◌, length, Some, Ok, Err, Result, sym, refl, ap, ◌∙◌, arith}
+use Rattle.std.proofs.Common.{◌≡◌, ℕ, zero, suc, ◌+◌, ◌<◌, ◌≤◌, true, false, ◌&&◌, ltb, leb, Some, refl, ap, ◌∙◌, arith}
 use Rattle.std.proofs.lemmas.Bool.Decides.{nat_tests}
 use Rattle.std.proofs.lemmas.Bool.{cond-true, cond-false}
-use Rattle.cells.specs.Stretch.{cells_in_bytes}
-use Rattle.rules.specs.declared.Swept.{Swept}
 use Rattle.rules.specs.declared.Scanned.{Scanned}
 use Rattle.rules.specs.declared.Scanned.TheVariants.{At as ScannedAt}
-use Rattle.rules.specs.declared.Refusal.{Refusal}
 use Rattle.rules.specs.declared.Refusal.TheVariants.{MemorySize, DirectorySize}
-use Rattle.rules.specs.State.{State, Outcome, accepted, refused, by}
-use Rattle.rules.specs.SettingUp.{begun, fit_bags, set_up, set_up_checks}
+use Rattle.rules.specs.State.{State, accepted, refused, by}
+use Rattle.rules.specs.SettingUp.{begun, fit_bags, set_up}
 use Rattle.rules.specs.Greying.{is_black}
 use Rattle.rules.specs.Collecting.{blacken, overflowed}
 use Rattle.bags.specs.Holding.{has_room}

@@ -2,8 +2,8 @@
 use Rattle.std.specs.Prelude.{ℕ, zero, suc, ◌+◌, Bool, true, false, cond, not, ◌&&◌, ◌||◌, Some, None, Option, ◌==◌, nat_lt}
 use Rattle.cells.specs.declared.Colour.{Colour}
 use Rattle.cells.specs.declared.Colour.TheVariants.{Blue, White, Grey, Black}
-use Rattle.cells.specs.Memory.{Cells, coloured}
-use Rattle.bags.specs.Holding.{Hold, has_room, has_member, put_into, taken_from}
+use Rattle.cells.specs.Memory.{coloured}
+use Rattle.bags.specs.Holding.{has_room, has_member, put_into, taken_from}
 use Rattle.rules.specs.declared.Status.{Status}
 use Rattle.rules.specs.declared.Status.TheVariants.{Async, Sync1, Sync2}
 use Rattle.rules.specs.declared.Stage.{Stage}
@@ -13,7 +13,6 @@ use Rattle.rules.specs.declared.Swept.TheVariants.{Before, At, Past}
 use Rattle.rules.specs.declared.Scanned.{Scanned}
 use Rattle.rules.specs.declared.Scanned.TheVariants.{Before as Unscanned, At as ScannedAt}
 use Rattle.rules.specs.declared.Hand.{Hand}
-use Rattle.rules.specs.declared.Collector.{Collector}
 use Rattle.rules.specs.State.{Task, State, Outcome, accepted, with_cells, with_free, with_cache, with_collector}
 use Rattle.rules.specs.Greying.{same_status, is_black, is_grey}
 use Rattle.rules.specs.Changes.{with_dirty}

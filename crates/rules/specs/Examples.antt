@@ -1,10 +1,8 @@
 -- The worked examples of the rules, as one statement about the definitions.
 use Rattle.std.specs.Prelude.{◌≡◌, ℕ, zero, suc, ◌+◌, ◌<◌, ◌≤◌, Bool, true, false, cond, List, [], ◌∷◌, length, Some, None, Ok, Err, Option, Result, ◌==◌}
-use Rattle.cells.specs.declared.Colour.{Colour}
 use Rattle.cells.specs.declared.Colour.TheVariants.{White, Grey, Black}
-use Rattle.cells.specs.Memory.{Cells}
 use Rattle.cells.specs.Stretch.{cells_in_bytes, bytes_coloured, bytes_linked}
-use Rattle.bags.specs.Holding.{Hold, has_room}
+use Rattle.bags.specs.Holding.{has_room}
 use Rattle.bags.specs.Rounds.{empty_ring}
 use Rattle.rules.specs.declared.Status.TheVariants.{Async, Sync1}
 use Rattle.rules.specs.declared.Swept.{Swept}
@@ -12,7 +10,7 @@ use Rattle.rules.specs.declared.Swept.TheVariants.{Before, At, Past}
 use Rattle.rules.specs.declared.Scanned.TheVariants.{Before as Unscanned, At as ScannedAt}
 use Rattle.rules.specs.declared.Refusal.{Refusal}
 use Rattle.rules.specs.declared.Refusal.TheVariants.{MemorySize, DirectorySize}
-use Rattle.rules.specs.State.{State, Outcome, accepted, refused}
+use Rattle.rules.specs.State.{State, accepted, refused}
 use Rattle.rules.specs.SettingUp.{begun, fit_bags, resting, set_up}
 use Rattle.rules.specs.Greying.{is_black}
 use Rattle.rules.specs.Changes.{settled_colour, warned}

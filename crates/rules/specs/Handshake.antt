@@ -1,6 +1,5 @@
 -- Tasks that begin as another left off, and tasks that reply to the collector.
 use Rattle.std.specs.Prelude.{ℕ, ◌/◌, ◌%◌, ◌^◌, Bool, cond, Some, None, Ok, Err, Option, Result, ◌==◌, count_ones}
-use Rattle.cells.specs.Memory.{Cells}
 use Rattle.rules.specs.declared.Status.{Status}
 use Rattle.rules.specs.declared.Status.TheVariants.{Sync2}
 use Rattle.rules.specs.declared.Refusal.{Refusal}

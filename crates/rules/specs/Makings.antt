@@ -1,5 +1,5 @@
 -- Cells that are made: make, fill, finish and scrap. A ticket is the pair of the slot m and the cell x.
-use Rattle.std.specs.Prelude.{ℕ, Bool, true, false, List, [], ◌∷◌, Some, None, Ok, Err, Option, Result, ◌==◌, nat_lt}
+use Rattle.std.specs.Prelude.{ℕ, Bool, false, List, [], ◌∷◌, Some, None, Ok, Err, Option, Result, ◌==◌, nat_lt}
 use Rattle.cells.specs.declared.Colour.TheVariants.{Blue, Black}
 use Rattle.cells.specs.Memory.{Cells, at, coloured, linked}
 use Rattle.rules.specs.declared.Work.{Work}

@@ -1,5 +1,5 @@
 -- Which cells are in reach: the directory, what registers of present tasks hold, cells being made, and what a link of a cell in reach names.
-use Rattle.std.specs.Prelude.{◌≡◌, ℕ, ◌<◌, Bool, Some, Option}
+use Rattle.std.specs.Prelude.{◌≡◌, ℕ, ◌<◌, Bool, Some}
 use Rattle.cells.specs.Memory.{Cells}
 use Rattle.rules.specs.declared.Work.TheVariants.{Making}
 use Rattle.rules.specs.State.{Task, State}

@@ -1,5 +1,5 @@
 -- A symbol memory as it begins.
-use Rattle.std.specs.Prelude.{ℕ, zero, suc, ◌+◌, ◌-◌, Bool, true, false, cond, not, ◌&&◌, ◌||◌, length, Some, None, Ok, Option, Result, nat_le, nat_lt}
+use Rattle.std.specs.Prelude.{ℕ, zero, suc, ◌+◌, ◌-◌, Bool, false, cond, not, ◌&&◌, None, Ok, Result, nat_le, nat_lt}
 use Rattle.cells.specs.declared.Colour.TheVariants.{Blue, White}
 use Rattle.cells.specs.Memory.{Cells}
 use Rattle.bags.specs.Holding.{Hold, has_member, put_into}

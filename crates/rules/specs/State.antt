@@ -1,5 +1,5 @@
 -- The state of a symbol memory, and what a call answers and leaves.
-use Rattle.std.specs.Prelude.{ℕ, Bool, true, false, cond, List, [], ◌∷◌, length, Some, None, Ok, Err, Option, Result, ◌==◌, nat_lt}
+use Rattle.std.specs.Prelude.{ℕ, Bool, true, false, cond, List, ◌∷◌, length, Some, None, Ok, Err, Option, Result, ◌==◌, nat_lt}
 use Rattle.cells.specs.Memory.{Cells, at}
 use Rattle.bags.specs.Holding.{Hold}
 use Rattle.rules.specs.declared.Status.{Status}

@@ -1,6 +1,6 @@
 -- Tasks that begin and end, and their registers. Each call has its checks, in the order of their numbers, and what it does;
 -- checks look at d, the number of directory cells, and at the tasks.
-use Rattle.std.specs.Prelude.{ℕ, Bool, true, false, cond, List, [], ◌∷◌, Some, None, Ok, Err, Option, Result, nat_lt}
+use Rattle.std.specs.Prelude.{ℕ, Bool, true, false, List, [], ◌∷◌, Some, None, Ok, Err, Option, Result, nat_lt}
 use Rattle.rules.specs.declared.Status.{Status}
 use Rattle.rules.specs.declared.Refusal.{Refusal}
 use Rattle.rules.specs.declared.Refusal.TheVariants.{NoSuchSlot, NoSuchRegister, NoSuchLink, NoSuchDirectoryCell, SlotTaken, RegisterEmpty, PoolNotEmpty}

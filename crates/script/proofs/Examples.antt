@@ -1,5 +1,5 @@
 -- Each verb is known by its text; what some lines ask for, and where some texts are cut: all by computation.
-use Rattle.std.proofs.Common.{◌≡◌, ℕ, true, false, List, [], ◌∷◌, ◌++◌, drop, Some, Ok, Err, codes, Result, refl}
+use Rattle.std.proofs.Common.{◌≡◌, ℕ, true, false, [], ◌∷◌, ◌++◌, drop, Some, Ok, Err, codes, Result, refl}
 use Rattle.script.specs.declared.LineRefusal.{LineRefusal}
 use Rattle.script.specs.declared.LineRefusal.TheVariants.{UnknownWord, BadNumbers}
 use Rattle.script.specs.declared.Request.{Request}

@@ -1,8 +1,8 @@
 -- Cells that go from the free list to a pool, one after the other.
-use Rattle.std.proofs.Common.{◌≡◌, ℕ, zero, suc, ◌+◌, ◌<◌, ◌≤◌, true, List, ◌∷◌, length, Some, None, Option, sym, refl, ap, ◌∙◌, subst, add-one, arith}
-use Rattle.std.proofs.lemmas.Bool.{cond-true, cond_both, lt-ltb}
+use Rattle.std.proofs.Common.{◌≡◌, ℕ, suc, ◌+◌, ◌<◌, true, List, ◌∷◌, length, Some, None, Option, sym, refl, ap, ◌∙◌, add-one, arith}
+use Rattle.std.proofs.lemmas.Bool.{cond-true, lt-ltb}
 use Rattle.cells.specs.Memory.{at}
-use Rattle.bags.specs.Holding.{Hold, Fair, holding, has_member}
+use Rattle.bags.specs.Holding.{Hold, Fair, has_member}
 use Rattle.rules.specs.State.{Task, State, grown, with_pool}
 use Rattle.rules.specs.Pools.{left, drawn, with_drawn, reserving}
 use Rattle.rules.proofs.States.{at_here, at_again, task_as_it_was}

@@ -1,10 +1,9 @@
 -- Cells laid out one after the other, from none to all.
-use Rattle.std.proofs.Common.{◌≡◌, ℕ, suc, ◌+◌, ◌-◌, ◌<◌, ◌≤◌, cond, eqb, ltb, None, Option, sym, refl, ap, ◌∙◌, ap₂, inl, ⊎_elim, arith}
+use Rattle.std.proofs.Common.{◌≡◌, ℕ, suc, ◌+◌, ◌-◌, ◌<◌, ◌≤◌, cond, eqb, ltb, None, Option, sym, ap, ◌∙◌, ap₂, inl, ⊎_elim, arith}
 use mathlib.Core.Path.{fun_ext}
 use Rattle.std.proofs.lemmas.Bool.Decides.{nat_tests}
 use Rattle.std.proofs.lemmas.Bool.{cases_eq, cases_lt, cond-true, cond-false, eq-eqb, ne_eqb, lt-ltb, le-ltb}
 use Rattle.cells.specs.declared.Colour.{Colour}
-use Rattle.cells.specs.declared.Colour.TheVariants.{Blue, White}
 use Rattle.cells.specs.Memory.{Cells, Sound, at}
 use Rattle.bags.specs.Holding.{Hold, put_into}
 use Rattle.rules.specs.declared.Collector.{Collector}

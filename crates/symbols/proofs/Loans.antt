@@ -1,5 +1,5 @@
 -- What was lent stays lent, from one call to the next.
-use Rattle.std.proofs.Common.{◌≡◌, refl, ◌∙◌}
+use Rattle.std.proofs.Common.{refl, ◌∙◌}
 use Rattle.cells.specs.declared.CellMemory.{Ghosts as MemoryGhosts}
 use Rattle.bags.specs.declared.Bag.{Ghosts as BagGhosts}
 use Rattle.symbols.specs.declared.parts.Symbols.{Symbols}

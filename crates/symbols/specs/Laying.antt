@@ -1,5 +1,5 @@
 -- Cells that are laid out, one after the other.
-use Rattle.std.specs.Prelude.{ℕ, ◌-◌, cond, None, Option, nat_lt}
+use Rattle.std.specs.Prelude.{ℕ, ◌-◌, cond, None, nat_lt}
 use Rattle.cells.specs.declared.Colour.{Colour}
 use Rattle.cells.specs.declared.Colour.TheVariants.{Blue, White}
 use Rattle.cells.specs.Memory.{Cells, at, coloured, linked}

@@ -1,6 +1,6 @@
 -- One cell on its way between the free list and a pool.
 use Rattle.std.specs.Prelude.{ℕ, cond, Some, None, Option}
-use Rattle.bags.specs.Holding.{Hold, has_member, put_into, taken_from}
+use Rattle.bags.specs.Holding.{has_member, put_into, taken_from}
 use Rattle.rules.specs.State.{State, with_task, with_free}
 use Rattle.tasks.specs.Parts.{with_grown, newest_in, with_older}
 

@@ -1,5 +1,5 @@
 -- A pool with one cell more and one less.
-use Rattle.std.proofs.Common.{◌≡◌, ℕ, suc, ◌+◌, ◌-◌, ◌<◌, min, ◌≢◌, List, ◌∷◌, length, get_or, Some, Option, sym, ap, ◌∙◌, arith}
+use Rattle.std.proofs.Common.{◌≡◌, ℕ, suc, ◌+◌, ◌-◌, ◌<◌, min, ◌≢◌, List, ◌∷◌, length, get_or, Some, sym, ap, ◌∙◌, arith}
 use Rattle.std.proofs.lemmas.Bool.{cond-true, lt-ltb}
 use Rattle.bags.specs.Stacks.{stacked, stacked_length}
 use Rattle.rules.specs.Makings.{older_of}

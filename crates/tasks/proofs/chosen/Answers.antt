@@ -1,4 +1,4 @@
-use Rattle.std.proofs.Common.{◌≡◌, ℕ, List, get_or, None, Option, sym, ap, ◌∙◌, arith}
+use Rattle.std.proofs.Common.{ℕ, List, get_or, None, Option, sym, ap, ◌∙◌, arith}
 use Rattle.cells.specs.Memory.{at}
 use Rattle.tasks.specs.Masks.{choice_to}
 use Rattle.tasks.proofs.Masking.{one_copied, one_passed, all_copied}

@@ -1,4 +1,4 @@
-use Rattle.std.proofs.Common.{◌≡◌, length, get_or, None}
+use Rattle.std.proofs.Common.{◌≡◌, get_or, None}
 use Rattle.tasks.specs.Masks.{choice_to}
 use Rattle.tasks.proofs.chosen.Given as goal
 

@@ -1,4 +1,4 @@
-use Rattle.std.proofs.Common.{◌≡◌, ℕ, Some, Option, sym, ap, ◌∙◌}
+use Rattle.std.proofs.Common.{ℕ, Some, Option, sym, ap, ◌∙◌}
 use Rattle.rules.specs.Tasks.{with_held}
 use Rattle.tasks.specs.Parts.{pool_of, slot_of}
 use Rattle.tasks.proofs.hold_in.Goals as goal

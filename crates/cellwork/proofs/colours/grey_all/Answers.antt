@@ -1,4 +1,4 @@
-use Rattle.std.proofs.Common.{◌≡◌, ℕ, get_or, None, Option, sym, ap, ◌∙◌, add-one}
+use Rattle.std.proofs.Common.{ℕ, get_or, None, Option, sym, ap, ◌∙◌, add-one}
 use Rattle.cells.specs.Memory.{Cells}
 use Rattle.rules.specs.Greying.{greyed_if, greyed_to}
 use Rattle.cellwork.proofs.colours.grey_all.Goals as goal

@@ -1,4 +1,4 @@
-use Rattle.std.proofs.Common.{◌≡◌, None, ap, ◌∙◌, arith}
+use Rattle.std.proofs.Common.{None, ap, ◌∙◌, arith}
 use Rattle.cells.specs.Memory.{Cells, linked}
 use Rattle.cellwork.proofs.Emptying.{one_emptied}
 use Rattle.cellwork.proofs.links.empty_links.Goals as goal

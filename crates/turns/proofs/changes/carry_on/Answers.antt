@@ -1,4 +1,4 @@
-use Rattle.std.proofs.Common.{◌≡◌, Ok, sym, ap, ◌∙◌}
+use Rattle.std.proofs.Common.{Ok, sym, ap, ◌∙◌}
 use Rattle.rules.specs.declared.Work.TheVariants.{Making}
 use Rattle.rules.specs.Changes.{carry_on_checks, carrying}
 use Rattle.rules.proofs.States.{passed}

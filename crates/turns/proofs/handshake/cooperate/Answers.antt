@@ -1,4 +1,4 @@
-use Rattle.std.proofs.Common.{◌≡◌, cond, sym, ◌∙◌}
+use Rattle.std.proofs.Common.{cond, sym, ◌∙◌}
 use Rattle.std.proofs.lemmas.Bool.{cond-false}
 use denote.Enum.Bare.{same_false}
 use Rattle.rules.specs.contracts.Status.{the_type}

@@ -1,4 +1,4 @@
-use Rattle.std.proofs.Common.{◌≡◌, ℕ, cond, Option, ap, ◌∙◌, ap₂}
+use Rattle.std.proofs.Common.{ℕ, cond, Option, ap, ◌∙◌, ap₂}
 use Rattle.cells.specs.Memory.{Cells}
 use Rattle.rules.specs.declared.Status.TheVariants.{Sync2}
 use Rattle.rules.specs.State.{Task, accepted}

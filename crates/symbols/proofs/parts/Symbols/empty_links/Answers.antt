@@ -1,4 +1,4 @@
-use Rattle.std.proofs.Common.{◌≡◌, ap, ◌∙◌, arith}
+use Rattle.std.proofs.Common.{ap, ◌∙◌, arith}
 use Rattle.rules.specs.State.{State, with_cells}
 use Rattle.symbols.specs.Laying.{emptying_link}
 use Rattle.symbols.specs.Views.{state_of}

@@ -1,5 +1,5 @@
-use Rattle.std.proofs.Common.{◌≡◌, length, Ok, ap, ◌∙◌, ap₂, arith}
-use Rattle.rules.specs.State.{State, accepted}
+use Rattle.std.proofs.Common.{◌≡◌, length, Ok, ap, ◌∙◌, arith}
+use Rattle.rules.specs.State.{accepted}
 use Rattle.rules.specs.Pools.{reserving, reserve_checks}
 use Rattle.rules.proofs.States.{passed}
 use Rattle.rules.proofs.Checked.{reserve_checked}

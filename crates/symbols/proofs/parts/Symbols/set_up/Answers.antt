@@ -3,7 +3,7 @@ use Rattle.rules.specs.State.{State, accepted}
 use Rattle.rules.specs.SettingUp.{begun, set_up_checks}
 use Rattle.rules.proofs.States.{passed}
 use Rattle.tasks.specs.Parts.{tasks_of}
-use Rattle.symbols.specs.Laying.{laying, laid_to}
+use Rattle.symbols.specs.Laying.{laying}
 use Rattle.symbols.specs.Views.{state_of}
 use Rattle.symbols.proofs.LayingOut.{one_laid, laid_begun}
 use Rattle.symbols.proofs.Lawfulness.{set_up_lawful}

@@ -1,4 +1,4 @@
-use Rattle.std.proofs.Common.{◌≡◌, ℕ, List, Some, None, Option, ap, ◌∙◌, ap₂}
+use Rattle.std.proofs.Common.{ℕ, List, Some, None, Option, ap, ◌∙◌, ap₂}
 use Rattle.cells.specs.Memory.{at}
 use Rattle.tasks.specs.Masks.{choice}
 use Rattle.tasks.specs.Parts.{tasks_of}

@@ -1,14 +1,17 @@
 -- The parts that a turn of the collector is made on, gathered into the state that the rules speak of; and what it is for a
 -- function on some of the parts to keep to a rule: it does so whatever the other parts are.
-use Rattle.std.specs.Borrow.{Bor, MutBor}
-use Rattle.std.specs.Prelude.{◌≡◌, ℕ, [], None, Option}
+use Rattle.std.specs.Borrow.{MutBor}
+use Rattle.std.specs.Prelude.{◌≡◌, ℕ, ◌+◌, Bool, true, false, cond, [], None, Option, nat_lt}
 use Rattle.cells.specs.declared.CellMemory.{Ghosts as MemoryGhosts}
 use Rattle.cells.specs.declared.Colour.TheVariants.{White}
 use Rattle.cells.specs.Memory.{Cells}
 use Rattle.bags.specs.declared.Bag.{Ghosts as BagGhosts}
 use Rattle.bags.specs.Holding.{Hold}
 use Rattle.rules.specs.declared.Collector.{Collector}
-use Rattle.rules.specs.State.{Task, State}
+use Rattle.rules.specs.declared.Scanned.{Scanned}
+use Rattle.rules.specs.declared.Scanned.TheVariants.{Before as Unscanned, At as ScannedAt}
+use Rattle.rules.specs.State.{Task, State, Outcome}
+use Rattle.rules.specs.Collecting.{looking, scan_from, sweep_from, waits, works}
 
 abbrev state_with : Cells → ℕ → Hold → Hold → ℕ → (ℕ → Option Task) → Collector → State
 state_with x l f h d tasks k = record { cells = x; links = l; free = f; cache = h; directory = d; tasks = tasks; collector = k }
@@ -35,14 +38,26 @@ alone rule k = (rule (state_with (record { size = 0; colour = λ _. White; link 
 
 -- memory, cache and collector are changed by the rule, whatever the other parts are
 module _ {M C : Type 0} (m : MemoryGhosts M) (c : BagGhosts C) where
-  pub record Marks {A : Type 0} (told rule : State → A) (memory memory' : Bor M) (cache cache' : Bor C) (k k' : Bor Collector) : Type 0 where
+  pub record Marks {A : Type 0} (told rule : State → A) (memory memory' : MutBor M) (cache cache' : MutBor C) (k k' : MutBor Collector) : Type 0 where
     pub state : (f : Hold) (d : ℕ) (tasks : ℕ → Option Task) → told (state_with (m.means memory'.now) m.links f (c.means cache'.now) d tasks k'.now) ≡ rule (state_with (m.means memory.now) m.links f (c.means cache.now) d tasks k.now)
     pub spare : m.spare memory'.now ≡ m.spare memory.now
     pub cache_spare : c.spare cache'.now ≡ c.spare cache.now
 
 -- memory, free list and collector are changed by the rule, whatever the other parts are
 module _ {M F : Type 0} (m : MemoryGhosts M) (f : BagGhosts F) where
-  pub record Sweeps {A : Type 0} (told rule : State → A) (memory memory' : Bor M) (free free' : Bor F) (k k' : Bor Collector) : Type 0 where
+  pub record Sweeps {A : Type 0} (told rule : State → A) (memory memory' : MutBor M) (free free' : MutBor F) (k k' : MutBor Collector) : Type 0 where
     pub state : (h : Hold) (d : ℕ) (tasks : ℕ → Option Task) → told (state_with (m.means memory'.now) m.links (f.means free'.now) h d tasks k'.now) ≡ rule (state_with (m.means memory.now) m.links (f.means free.now) h d tasks k.now)
     pub spare : m.spare memory'.now ≡ m.spare memory.now
     pub free_spare : f.spare free'.now ≡ f.spare free.now
+
+-- Scan, where there is nothing to trace
+abbrev pub scan_on : State → Scanned → Outcome
+scan_on s Unscanned = waits s
+scan_on s (ScannedAt k) =
+    cond (nat_lt k s.cells.size)
+    (cond s.collector.looked (works (scan_from s s.collector.dirty (k + 1))) (works (looking s k)))
+    (cond s.collector.dirty (works (scan_from s false 0)) (works (sweep_from s)))
+
+abbrev pub is_unscanned : Scanned → Bool
+is_unscanned Unscanned = true
+is_unscanned (ScannedAt k) = false

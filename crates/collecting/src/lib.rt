@@ -12,7 +12,7 @@ use cells::CellMemory;
 use marking::{follow, next_cell, take};
 use phases::{begin_scan, clear, next_phase, phase_is_over, rest};
 use rules::{Collector, Stage, Status};
-use scanning::scan;
+use scanning::{scan, unscanned};
 use sweeping::sweep;
 use tasks::Tasks;
 
@@ -51,6 +51,7 @@ pub fn collect<M: CellMemory, F: Bag, C: Bag>(
         (Stage::Mark, None, _) if collector.next < directory => next_cell(memory, cache, collector),
         (Stage::Mark, None, _) if collector.phase == Status::Async => begin_scan(collector),
         (Stage::Mark, None, _) => return 0,
+        (Stage::Scan, _, _) if unscanned(collector.scanned) => return 0,
         (Stage::Scan, Some(hand), _) => follow(memory, cache, collector, hand),
         (Stage::Scan, None, _) if cache.count() > 0 => take(cache, collector),
         (Stage::Scan, None, _) => return scan(memory, cache, collector),

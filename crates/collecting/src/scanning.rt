@@ -1,8 +1,8 @@
 // Scan, where there is nothing to trace: cell by cell, until no Grey cell is left.
 ghost use Rattle.std.specs.Prelude.{◌≡◌};
-ghost use Rattle.rules.specs.Collecting.{looking, scanOn};
+ghost use Rattle.rules.specs.Collecting.{looking};
 ghost use Rattle.rules.specs.State.{accepted};
-ghost use Rattle.collecting.specs.Gathering.{Marks};
+ghost use Rattle.collecting.specs.Gathering.{Marks, is_unscanned, scan_on};
 
 use super::marking::{blacken, colour_of};
 use super::phases::{begin_scan, scan_from, sweep_from};
@@ -26,7 +26,7 @@ pub(crate) fn scan<M: CellMemory, C: Bag>(
     cache: &mut C,
     collector: &mut Collector,
 ) -> u16
-    ensures { Marks M.CellMemory C.Bag (accepted result) (λ s. scanOn s s.collector.scanned) memory.entry memory.exit cache.entry cache.exit collector.entry collector.exit }
+    ensures { Marks M.CellMemory C.Bag (accepted result) (λ s. scan_on s s.collector.scanned) memory.entry memory.exit cache.entry cache.exit collector.entry collector.exit }
 {
     let Scanned::At(k) = collector.scanned else {
         return 0;
@@ -38,4 +38,14 @@ pub(crate) fn scan<M: CellMemory, C: Bag>(
         (false, _, false) => sweep_from(collector),
     }
     1
+}
+
+// Whether the scan has no place, as before and after it.
+pub(crate) fn unscanned(scanned: Scanned) -> bool
+    ensures { result ≡ is_unscanned scanned }
+{
+    match scanned {
+        Scanned::Before => true,
+        Scanned::At(_) => false,
+    }
 }

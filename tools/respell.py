@@ -14,13 +14,14 @@ import sys
 WORD = re.compile(r"[A-Za-z_][\w'-]*")
 DECLARED = re.compile(r"^\s*(?:(?:pub|abbrev|unfoldable)\s+)*(?:(?:record|data)\s+)?([A-Za-z_][\w'-]*)\s+(?::\s|[({].*:\s)")
 LIBRARY = re.compile(r"^(?:ghost )?use (?:Rattle\.std|mathlib|native|borrow|denote|Prim|lib)\b.*?\{(.*)\}")
-MADE = re.compile(r"^(?:loop|if|in|then|else|match|returns|invariant-(?:loop|of)|decreases)-|-(?:requires|init|preserved|smaller)$")
+MADE = re.compile(r"^(?:loop|if|then|else|match|returns|invariant-(?:loop|of)|decreases)-|^in-[A-Z]|-(?:requires|init|preserved|smaller)$")
 
 # where the plain rule would give one name to two things
 APART = {
     "all-agree": "all_agree_lem",
     "has-member": "has_member_lem",
     "has_room": "has_room_lem",
+    "in-slot": "in_slot_lem",
     "is-black": "is_black_lem",
     "is-empty": "is_empty_lem",
     "is-grey": "is_grey_lem",

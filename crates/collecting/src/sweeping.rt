@@ -1,6 +1,6 @@
 // Sweep: what was marked is White again, and what was not is free.
 ghost use Rattle.std.specs.Prelude.{◌≡◌};
-ghost use Rattle.rules.specs.Collecting.{sweeping, swept as sweptCell};
+ghost use Rattle.rules.specs.Collecting.{sweeping, swept as swept_cell};
 ghost use Rattle.rules.specs.State.{accepted};
 ghost use Rattle.collecting.specs.Gathering.{Sweeps};
 
@@ -12,7 +12,7 @@ use rules::{Collector, Stage, Swept};
 
 // Looks at cell k, and frees it if it is White.
 fn look<M: CellMemory, F: Bag>(memory: &mut M, free: &mut F, collector: &mut Collector, k: u16)
-    ensures { Sweeps M.CellMemory F.Bag (λ s. s) (λ s. sweptCell s k (s.cells.colour k)) memory.entry memory.exit free.entry free.exit collector.entry collector.exit }
+    ensures { Sweeps M.CellMemory F.Bag (λ s. s) (λ s. swept_cell s k (s.cells.colour k)) memory.entry memory.exit free.entry free.exit collector.entry collector.exit }
 {
     match colour_of(memory, k) {
         Colour::Blue => {}

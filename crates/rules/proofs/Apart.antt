@@ -5,7 +5,7 @@ use Rattle.bags.specs.Holding.{Hold}
 use Rattle.rules.specs.declared.Collector.{Collector}
 use Rattle.rules.specs.Reach.{From, start, along}
 use Rattle.rules.proofs.Ways.{reached_have}
-use Rattle.rules.proofs.Words.{Holding, KeptOf, PendingOf, cached, grey_in_mark, in-directory, ahead, at_scan, dirty, FollowsOf, TraceRoot, pending, by_hand}
+use Rattle.rules.proofs.Words.{Holding, KeptOf, PendingOf, cached, grey_in_mark, in_directory, ahead, at_scan, dirty, FollowsOf, TraceRoot, pending, by_hand}
 
 -- from table m to table n; Near tells where the marking of m can come
 module _ (m n : Cells) (cache : Hold) (co : Collector) (d : ℕ) (made made' : ℕ → Type 0) (Near : ℕ → Type 0)
@@ -21,7 +21,7 @@ module _ (m n : Cells) (cache : Hold) (co : Collector) (d : ℕ) (made made' : �
   pending_across : (c : ℕ) → Near c → PendingOf m cache co d made c → PendingOf n cache co d made' c
   pending_across c near (cached l) = cached l
   pending_across c near (grey_in_mark e k g) = grey_in_mark e (kept_across c near k) (sym (colours c near) ∙ g)
-  pending_across c near (in-directory e l h b) = in-directory e l h (λ q. b (colours c near ∙ q))
+  pending_across c near (in_directory e l h b) = in_directory e l h (λ q. b (colours c near ∙ q))
   pending_across c near (ahead e p l k g) = ahead e p l (kept_across c near k) (sym (colours c near) ∙ g)
   pending_across c near (at_scan e p l k g) = at_scan e p l (kept_across c near k) (sym (colours c near) ∙ g)
   pending_across c near (dirty e p k g) = dirty e p (kept_across c near k) (sym (colours c near) ∙ g)

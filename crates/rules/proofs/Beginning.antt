@@ -13,7 +13,7 @@ use Rattle.rules.specs.Law.{JustSetUp}
 use Rattle.rules.proofs.Checked.{need_passed}
 use Rattle.rules.proofs.Ways.{reached_have}
 use Rattle.rules.proofs.Accounts.{Account, blueness}
-use Rattle.rules.proofs.Words.{Made, made_by, is_shaded, Shaded, UsedRoot, directory, register, kept, filled, Used, Busy, in-hand, in-cache, SecondHalf, mark, scan}
+use Rattle.rules.proofs.Words.{Made, made_by, is_shaded, Shaded, UsedRoot, directory, register, kept, filled, Used, Busy, in_hand, in_cache, SecondHalf, mark, scan}
 use Rattle.rules.proofs.Places.{in_rest}
 use Rattle.rules.proofs.Invariant.{MarksSecond, Invariant}
 
@@ -138,8 +138,8 @@ module _ (b : State) (d : ℕ) (fit : Fits b d) (memory : SoundMemory b.links b.
       edges x y (i, e) l = no_links e
 
   nothing_traced : ¬ (Busy (begun b d))
-  nothing_traced (in-hand h) = h refl
-  nothing_traced (in-cache l) = omega (arith, cache_empty)
+  nothing_traced (in_hand h) = h refl
+  nothing_traced (in_cache l) = omega (arith, cache_empty)
 
   no_member : (c : ℕ) → ¬ (0 < copies b.cache.members c)
   no_member c l = omega (arith, no_copies b.free free empty d b.cache.members cache_empty c)
@@ -184,12 +184,12 @@ module _ (b : State) (d : ℕ) (fit : Fits b d) (memory : SoundMemory b.links b.
         new_cells = record {
           unsettled = λ m x t p q n. no_tasks p;
           settled = λ m x t p q n. no_tasks p;
-          in-mark = λ m x a t p q e g. no_tasks p;
-          in-scan = λ m x a t p q e g. no_tasks p;
+          in_mark = λ m x a t p q e g. no_tasks p;
+          in_scan = λ m x a t p q e g. no_tasks p;
         };
         sweeps = record {
           cached = λ c l. absurd (no_member c l);
-          in-hand = λ h e. let z : ◌≡◌ {A = ℕ} 0 1 = cc in absurd (omega arith);
+          in_hand = λ h e. let z : ◌≡◌ {A = ℕ} 0 1 = cc in absurd (omega arith);
           rest_black = λ e x q. absurd (not_black x q);
           clear_black = λ e x q. absurd (not_black x q);
           behind = λ e x w q. absurd (not_black x q);

@@ -13,9 +13,9 @@ use Rattle.rules.specs.State.{State}
 use Rattle.rules.specs.Reach.{start, along}
 use Rattle.rules.specs.Collecting.{overflowed}
 use Rattle.rules.proofs.Ways.{lead_into}
-use Rattle.rules.proofs.Words.{is_shaded, Shaded, Kept, Used, Busy, in-cache, InHand, Pending, cached, grey_in_mark, in-directory, ahead, at_scan, dirty, Follows, TracedRoot, pending, by_hand, Traced, Marked, FirstHalf, SecondHalf}
+use Rattle.rules.proofs.Words.{is_shaded, Shaded, Kept, Used, Busy, in_cache, InHand, Pending, cached, grey_in_mark, in_directory, ahead, at_scan, dirty, Follows, TracedRoot, pending, by_hand, Traced, Marked, FirstHalf, SecondHalf}
 use Rattle.rules.proofs.Invariant.{Invariant}
-use Rattle.rules.proofs.Touched.{in-hand-or-not}
+use Rattle.rules.proofs.Touched.{in_hand_or_not}
 use Rattle.rules.proofs.Marking.{turned, WorksIn, shaded_on, kept_on}
 use Rattle.rules.proofs.GoingOn.{going, goes_on_kept}
 use Rattle.rules.proofs.Blackened.{Blackened, blackened_shaded, blackened_is_shaded, blackened_found, blackened_caches, blackened_cached, blackened_manner, blackened_black, blackened_dirty, overflowed_behind}
@@ -72,7 +72,7 @@ module _ (s : State) (I : Invariant s) (o : Option ℕ) (colour' : ℕ → Colou
 
     -- a cache without a place is not empty, so there is something to trace
     full_busy : has_room s.cache ≡ false → Busy s
-    full_busy f = in-cache (⊎_elim
+    full_busy f = in_cache (⊎_elim
         (λ (l : length s.cache.members < s.cache.room). let t = lt-ltb (length s.cache.members) s.cache.room l in let z : ◌≡◌ {A = ℕ} 0 1 = cc in absurd (omega arith))
         (λ (l : s.cache.room ≤ length s.cache.members). omega (arith, I.structure.cache_room))
         (cases_lt (length s.cache.members) s.cache.room))
@@ -109,9 +109,9 @@ module _ (s : State) (I : Invariant s) (o : Option ℕ) (colour' : ℕ → Colou
         (λ (h : o ≡ Some c). found c h (grey_not_black c q) (λ a. mark_not_scan e a.0))
         (λ n. grey_in_mark e (keep_on k) (same_elsewhere c n ∙ q))
         (is_it o c)
-    pending_on c (in-directory e l h n) = ⊎_elim
+    pending_on c (in_directory e l h n) = ⊎_elim
         (λ (i : o ≡ Some c). found c i n (λ a. mark_not_scan e a.0))
-        (λ i. ⊎_elim (λ j. absurd (i j)) (λ p. in-directory e p h (λ q. n (sym (same_elsewhere c i) ∙ q))) (g.next_left e c l h))
+        (λ i. ⊎_elim (λ j. absurd (i j)) (λ p. in_directory e p h (λ q. n (sym (same_elsewhere c i) ∙ q))) (g.next_left e c l h))
         (is_it o c)
     pending_on c (ahead {k} e p l was_kept q) = ⊎_elim
         (λ (h : o ≡ Some c). found c h (grey_not_black c q) (λ a. let same : k ≡ c = scanned_same (sym p ∙ a.1) in omega arith))
@@ -160,7 +160,7 @@ module _ (s : State) (I : Invariant s) (o : Option ℕ) (colour' : ℕ → Colou
         (λ (free : ¬ (InHand s x i)).
         let was-black = blackened_black b fair x q n in
         shade_on c ((I.first_half h).black_to_shaded x i c (ap is_shaded was-black, k.1) was-black (λ l. n (blackened_caches b fair x l)) free e))
-        (in-hand-or-not s.collector x i)
+        (in_hand_or_not s.collector x i)
 
     pub blackening_kept : Invariant s'
     blackening_kept = goes_on_kept s I colour' cache' dirty' next' looked' hand' (record {

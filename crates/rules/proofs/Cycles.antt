@@ -20,7 +20,7 @@ shaded_not_white x e b = let f = sym (ap is_shaded b) ∙ e in let z : ◌≡◌
 module _ (s : State) (I : Invariant s) where
   traced_not_blue : (c : ℕ) → Traced s c → s.cells.colour c ≢ Blue
   traced_not_blue c (reached r) = reach_not_free s I c r
-  traced_not_blue c (followed h e q) = (I.safe c (along (start (kept (I.sweeps.in-hand h e).0)) (h.link, q))).1
+  traced_not_blue c (followed h e q) = (I.safe c (along (start (kept (I.sweeps.in_hand h e).0)) (h.link, q))).1
   traced_not_blue c (grey e) = λ b. let z : ◌≡◌ {A = ℕ} 0 1 = cc in omega arith
 
   -- a turn that paints no free cell, and touches nothing else, leads nowhere new
@@ -45,7 +45,7 @@ module _ (s : State) (I : Invariant s) where
     traced_unwatched : BeforeSecond Z s → (c : ℕ) → Traced s c → ¬ (Z c)
     traced_unwatched S c (reached r) z = W.out c z r
     traced_unwatched S c (followed h e q) z =
-        let shaded = (I.sweeps.in-hand h e).0.0 in
+        let shaded = (I.sweeps.in_hand h e).0.0 in
         shaded_not_white _ shaded (S.white h.cell (W.named_within h.cell h.link c z (shaded_not_blue _ shaded) q))
     traced_unwatched S c (grey e) z = let w = S.white c z in let z : ◌≡◌ {A = ℕ} 0 1 = cc in omega arith
 

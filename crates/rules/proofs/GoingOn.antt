@@ -13,7 +13,7 @@ use Rattle.rules.specs.State.{State, with_cache}
 use Rattle.rules.specs.Reach.{start, along}
 use Rattle.rules.specs.Collecting.{with_hand}
 use Rattle.rules.proofs.Ways.{reached_have}
-use Rattle.rules.proofs.Words.{Shaded, Kept, Busy, in-cache, InHand, ahead_of, Pending, cached, grey_in_mark, in-directory, ahead, at_scan, dirty, Follows, TracedRoot, pending, by_hand, Traced, Marked, FirstHalf, SecondHalf, mark, scan}
+use Rattle.rules.proofs.Words.{Shaded, Kept, Busy, in_cache, InHand, ahead_of, Pending, cached, grey_in_mark, in_directory, ahead, at_scan, dirty, Follows, TracedRoot, pending, by_hand, Traced, Marked, FirstHalf, SecondHalf, mark, scan}
 use Rattle.rules.proofs.Invariant.{Control, Invariant}
 use Rattle.rules.proofs.Marking.{turned, WorksIn, Shades, shaded_on, marking_turn, second_goes_on}
 
@@ -83,7 +83,7 @@ module _ (s : State) (I : Invariant s) (was : WorksIn s.collector.stage) (free-h
   copies_left c = ap (λ (h : Hold). one chosen c + copies h.members c) is_taken ∙ I.structure.cache_fair.rest_copies s.cache.members members c
 
   busy : Busy s
-  busy = in-cache members
+  busy = in_cache members
 
   chosen_kept : Kept s chosen
   chosen_kept = I.sweeps.cached chosen (I.structure.cache_fair.choice_member s.cache.members members)
@@ -107,7 +107,7 @@ module _ (s : State) (I : Invariant s) (was : WorksIn s.collector.stage) (free-h
       pending_on : (c : ℕ) → Pending s c → Traced taken I.Cut c ⊎ (c ≡ chosen)
       pending_on c (cached l) = ⊎_elim (λ e. inr e) (λ h. inl (start (pending (cached h)))) (left_or_chosen c l)
       pending_on c (grey_in_mark e k g) = inl (start (pending (grey_in_mark e k g)))
-      pending_on c (in-directory e l h n) = inl (start (pending (in-directory e l h n)))
+      pending_on c (in_directory e l h n) = inl (start (pending (in_directory e l h n)))
       pending_on c (ahead e p l k g) = inl (start (pending (ahead e p l k g)))
       pending_on c (at_scan e p l k g) = inl (start (pending (at_scan e p l k g)))
       pending_on c (dirty e p k g) = inl (start (pending (dirty e p k g)))

@@ -9,7 +9,7 @@ use Rattle.rules.specs.State.{State, with_cells}
 use Rattle.rules.specs.Reach.{start, along}
 use Rattle.rules.proofs.Ways.{lead_into, reached_have}
 use Rattle.rules.proofs.Accounts.{blueness}
-use Rattle.rules.proofs.Words.{made_by, Made, Shaded, is_shaded, Kept, Used, UsedRoot, directory, register, kept, filled, FirstHalf, SecondHalf, Pending, cached, grey_in_mark, in-directory, ahead, at_scan, dirty, Follows, TracedRoot, pending, by_hand, Traced, Marked}
+use Rattle.rules.proofs.Words.{made_by, Made, Shaded, is_shaded, Kept, Used, UsedRoot, directory, register, kept, filled, FirstHalf, SecondHalf, Pending, cached, grey_in_mark, in_directory, ahead, at_scan, dirty, Follows, TracedRoot, pending, by_hand, Traced, Marked}
 use Rattle.rules.proofs.Invariant.{Structure, Control, Works, NewCells, Sweeps, MarksFirst, MarksSecond, Invariant}
 use Rattle.rules.proofs.Touched.{hand_kept}
 
@@ -102,7 +102,7 @@ module _ (s : State) (I : Invariant s) (f : ℕ → Colour) (Why : ℕ → Type 
   pending_on : {c : ℕ} → Pending s c → Pending s' c
   pending_on (cached l) = cached l
   pending_on {c} (grey_in_mark e k g) = grey_in_mark e (keep_on k) (grey_stays (each c) g)
-  pending_on {c} (in-directory e l h n) = in-directory e l h (λ b. n (greys_black (each c) b))
+  pending_on {c} (in_directory e l h n) = in_directory e l h (λ b. n (greys_black (each c) b))
   pending_on {c} (ahead e p l k g) = ahead e p l (keep_on k) (grey_stays (each c) g)
   pending_on {c} (at_scan e p l k g) = at_scan e p l (keep_on k) (grey_stays (each c) g)
   pending_on {c} (dirty e p k g) = dirty e p (keep_on k) (grey_stays (each c) g)
@@ -137,7 +137,7 @@ module _ (s : State) (I : Invariant s) (f : ℕ → Colour) (Why : ℕ → Type 
     pending_found : (c : ℕ) → Pending s' c → Found c
     pending_found c (cached l) = inl (inr (start (pending (cached l))))
     pending_found c (grey_in_mark e k g) = inr (e, start (pending (grey_in_mark e k g)), kept_was_used c k)
-    pending_found c (in-directory e l h n) = inr (e, start (pending (in-directory e l h n)), start (directory h))
+    pending_found c (in_directory e l h n) = inr (e, start (pending (in_directory e l h n)), start (directory h))
     pending_found c (ahead e p l k g) = kept_found c k
     pending_found c (at_scan e p l k g) = kept_found c k
     pending_found c (dirty e p k g) = kept_found c k
@@ -252,8 +252,8 @@ module _ (s : State) (I : Invariant s) (f : ℕ → Colour) (Why : ℕ → Type 
       record {
         unsettled = λ k x t p q n. made_same x (made_by k false p q) ∙ N.unsettled k x t p q n;
         settled = λ k x t p q n. made_same x (made_by k true p q) ∙ N.settled k x t p q n;
-        in-mark = λ k x a t p q e g. made_same x (made_by k a p q) ∙ N.in-mark k x a t p q e g;
-        in-scan = λ k x a t p q e g. made_same x (made_by k a p q) ∙ N.in-scan k x a t p q e g;
+        in_mark = λ k x a t p q e g. made_same x (made_by k a p q) ∙ N.in_mark k x a t p q e g;
+        in_scan = λ k x a t p q e g. made_same x (made_by k a p q) ∙ N.in_scan k x a t p q e g;
       }
 
   still_sweeps : Sweeps s'
@@ -261,7 +261,7 @@ module _ (s : State) (I : Invariant s) (f : ℕ → Colour) (Why : ℕ → Type 
       let W = I.sweeps in
       record {
         cached = λ c l. keep_on (W.cached c l);
-        in-hand = λ h e. let a = W.in-hand h e in (keep_on a.0, a.1);
+        in_hand = λ h e. let a = W.in_hand h e in (keep_on a.0, a.1);
         rest_black = λ e x q. W.rest_black e x (greys_black (each x) q);
         clear_black = λ e x q. W.clear_black e x (greys_black (each x) q);
         behind = λ e x w q. W.behind e x w (greys_black (each x) q);

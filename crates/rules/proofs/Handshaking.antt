@@ -10,8 +10,8 @@ use Rattle.rules.specs.declared.Collector.{Collector}
 use Rattle.rules.specs.State.{Task, State, Outcome, with_collector}
 use Rattle.rules.specs.Collecting.{agrees, agree_to, all_agree, rest, clearing}
 use Rattle.rules.proofs.TaskTurns.{same_status_lem}
-use Rattle.rules.proofs.Words.{made_by, Traces, in-hand, in-cache, SecondHalfOf, mark, scan}
-use Rattle.rules.proofs.Places.{placed, in-clear, in-mark}
+use Rattle.rules.proofs.Words.{made_by, Traces, in_hand, in_cache, SecondHalfOf, mark, scan}
+use Rattle.rules.proofs.Places.{placed, in_clear, in_mark}
 use Rattle.rules.proofs.Invariant.{Structure, Control, Works, Sweeps, MarksSecond, Invariant}
 
 -- what does not look at the collector
@@ -44,8 +44,8 @@ works_same s co W = record {
 
 -- nor more than the hand
 pub traces_same : {a b : Collector} {cache : Hold} → b.hand ≡ a.hand → Traces b cache → Traces a cache
-traces_same e (in-hand h) = in-hand (λ q. h (e ∙ q))
-traces_same e (in-cache l) = in-cache l
+traces_same e (in_hand h) = in_hand (λ q. h (e ∙ q))
+traces_same e (in_cache l) = in_cache l
 
 -- a turn of the collector alone that ends outside Mark and Scan leaves little to show
 pub quiet_turn : (s : State) → Invariant s → (co : Collector) → co.stage ≢ Mark → co.stage ≢ Scan → Control (with_collector s co) → Sweeps (with_collector s co) → Invariant (with_collector s co)
@@ -57,8 +57,8 @@ quiet_turn s I co unmarked unscanned control sweeps = record {
   new_cells = record {
     unsettled = I.new_cells.unsettled;
     settled = I.new_cells.settled;
-    in-mark = λ m x a t p q e h. absurd (unmarked h);
-    in-scan = λ m x a t p q e h. absurd (unscanned h);
+    in_mark = λ m x a t p q e h. absurd (unmarked h);
+    in_scan = λ m x a t p q e h. absurd (unscanned h);
   };
   sweeps = sweeps;
   first_half = λ h. absurd (unmarked h.0);
@@ -90,14 +90,14 @@ rest_kept s I g =
     let at = K.places.rest g in
     quiet_turn s I _ (λ e. let z : ◌≡◌ {A = ℕ} 0 1 = cc in omega arith) (λ e. let z : ◌≡◌ {A = ℕ} 0 1 = cc in omega arith)
     (record {
-      places = placed refl refl at.1 at.2 (K.places.unscanned (λ e. let z : ◌≡◌ {A = ℕ} 0 1 = cc in omega arith)) in-clear;
+      places = placed refl refl at.1 at.2 (K.places.unscanned (λ e. let z : ◌≡◌ {A = ℕ} 0 1 = cc in omega arith)) in_clear;
       nothing_traced = λ n k u. K.nothing_traced (λ e. let z : ◌≡◌ {A = ℕ} 0 1 = cc in omega arith) (λ e. let z : ◌≡◌ {A = ℕ} 0 1 = cc in omega arith) (traces_same refl u);
       statuses = λ m t p. inr (⊎_elim (λ e. e ∙ at.0 ∙ sym at.1) (λ e. e) (K.statuses m t p));
       scan_looked = λ e u k q. let z : ◌≡◌ {A = ℕ} 0 1 = cc in absurd (omega arith);
     })
     (record {
       cached = I.sweeps.cached;
-      in-hand = I.sweeps.in-hand;
+      in_hand = I.sweeps.in_hand;
       rest_black = λ e. let z : ◌≡◌ {A = ℕ} 0 1 = cc in absurd (omega arith);
       clear_black = λ e. I.sweeps.rest_black g;
       behind = λ e. let z : ◌≡◌ {A = ℕ} 0 1 = cc in absurd (omega arith);
@@ -118,7 +118,7 @@ began_marking s I g agree =
     record {
       structure = structure_same s _ I.structure;
       control = record {
-        places = placed refl refl refl refl (K.places.unscanned (λ e. let z : ◌≡◌ {A = ℕ} 0 1 = cc in omega arith)) (in-mark (inl (refl, refl)));
+        places = placed refl refl refl refl (K.places.unscanned (λ e. let z : ◌≡◌ {A = ℕ} 0 1 = cc in omega arith)) (in_mark (inl (refl, refl)));
         nothing_traced = λ n k u. n refl;
         statuses = λ m t p. inr (all_agree_lem s I agree m t p ∙ at.0);
         scan_looked = λ e u k q. let z : ◌≡◌ {A = ℕ} 0 1 = cc in absurd (omega arith);
@@ -128,12 +128,12 @@ began_marking s I g agree =
       new_cells = record {
         unsettled = I.new_cells.unsettled;
         settled = I.new_cells.settled;
-        in-mark = λ m x a t p q e h. let is = all_agree_lem s I agree m t p ∙ at.0 in let z : ◌≡◌ {A = ℕ} 0 1 = cc in absurd (omega arith);
-        in-scan = λ m x a t p q e h. let z : ◌≡◌ {A = ℕ} 0 1 = cc in absurd (omega arith);
+        in_mark = λ m x a t p q e h. let is = all_agree_lem s I agree m t p ∙ at.0 in let z : ◌≡◌ {A = ℕ} 0 1 = cc in absurd (omega arith);
+        in_scan = λ m x a t p q e h. let z : ◌≡◌ {A = ℕ} 0 1 = cc in absurd (omega arith);
       };
       sweeps = record {
         cached = I.sweeps.cached;
-        in-hand = I.sweeps.in-hand;
+        in_hand = I.sweeps.in_hand;
         rest_black = λ e. let z : ◌≡◌ {A = ℕ} 0 1 = cc in absurd (omega arith);
         clear_black = λ e. let z : ◌≡◌ {A = ℕ} 0 1 = cc in absurd (omega arith);
         behind = λ e. let z : ◌≡◌ {A = ℕ} 0 1 = cc in absurd (omega arith);

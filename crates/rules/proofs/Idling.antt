@@ -132,8 +132,8 @@ module _ (s : State) (I : Invariant s) (m : ℕ) (within : m < 8) (o : Option Ta
       record {
         unsettled = λ k x t p q n. N.unsettled k x t (works_on k t _ p q) q n;
         settled = λ k x t p q n. N.settled k x t (works_on k t _ p q) q n;
-        in-mark = λ k x a t p q e g. N.in-mark k x a t (works_on k t _ p q) q e g;
-        in-scan = λ k x a t p q e g. N.in-scan k x a t (works_on k t _ p q) q e g;
+        in_mark = λ k x a t p q e g. N.in_mark k x a t (works_on k t _ p q) q e g;
+        in_scan = λ k x a t p q e g. N.in_scan k x a t (works_on k t _ p q) q e g;
       }
 
   still_sweeps : Sweeps s'
@@ -141,7 +141,7 @@ module _ (s : State) (I : Invariant s) (m : ℕ) (within : m < 8) (o : Option Ta
       let W = I.sweeps in
       record {
         cached = λ c l. keep_on (W.cached c l);
-        in-hand = λ h e. let a = W.in-hand h e in (keep_on a.0, a.1);
+        in_hand = λ h e. let a = W.in_hand h e in (keep_on a.0, a.1);
         rest_black = λ e x q. unsettled_on x (W.rest_black e x q);
         clear_black = λ e x q. unsettled_on x (W.clear_black e x q);
         behind = λ e x w q. unsettled_on x (W.behind e x w q);

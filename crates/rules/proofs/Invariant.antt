@@ -62,8 +62,8 @@ Safe s = (c : ℕ) → Used s c → (c < s.cells.size) × (s.cells.colour c ≢ 
 pub record NewCells (s : State) : Type 0 where
   pub unsettled : (m x : ℕ) (t : Task) → s.tasks m ≡ Some t → t.work ≡ Some (Making x false) → t.status ≢ Async → s.cells.colour x ≡ Black
   pub settled : (m x : ℕ) (t : Task) → s.tasks m ≡ Some t → t.work ≡ Some (Making x true) → t.status ≢ Async → s.cells.colour x ≡ White
-  pub in-mark : (m x : ℕ) (a : Bool) (t : Task) → s.tasks m ≡ Some t → t.work ≡ Some (Making x a) → t.status ≡ Async → s.collector.stage ≡ Mark → s.cells.colour x ≡ Black
-  pub in-scan : (m x : ℕ) (a : Bool) (t : Task) → s.tasks m ≡ Some t → t.work ≡ Some (Making x a) → t.status ≡ Async → s.collector.stage ≡ Scan → s.cells.colour x ≡ Black
+  pub in_mark : (m x : ℕ) (a : Bool) (t : Task) → s.tasks m ≡ Some t → t.work ≡ Some (Making x a) → t.status ≡ Async → s.collector.stage ≡ Mark → s.cells.colour x ≡ Black
+  pub in_scan : (m x : ℕ) (a : Bool) (t : Task) → s.tasks m ≡ Some t → t.work ≡ Some (Making x a) → t.status ≡ Async → s.collector.stage ≡ Scan → s.cells.colour x ≡ Black
 
 -- x is being made and not settled
 abbrev pub Unsettled : State → ℕ → Type 0
@@ -72,7 +72,7 @@ Unsettled s x = (m : ℕ) × ((t : Task) × ((s.tasks m ≡ Some t) × (t.work �
 -- the collector's own cells, and what the sweep has done
 pub record Sweeps (s : State) : Type 0 where
   pub cached : (c : ℕ) → 0 < copies s.cache.members c → Kept s c
-  pub in-hand : (h : Hand) → s.collector.hand ≡ Some h → Kept s h.cell × (h.link < s.links)
+  pub in_hand : (h : Hand) → s.collector.hand ≡ Some h → Kept s h.cell × (h.link < s.links)
   pub rest_black : s.collector.stage ≡ Rest → (x : ℕ) → s.cells.colour x ≡ Black → Unsettled s x
   pub clear_black : s.collector.stage ≡ Clear → (x : ℕ) → s.cells.colour x ≡ Black → Unsettled s x
   pub behind : s.collector.stage ≡ Sweep → (x : ℕ) → Passed s x → s.cells.colour x ≡ Black → Unsettled s x

@@ -15,7 +15,7 @@ use Rattle.rules.specs.Collecting.{with_looked, swept}
 use Rattle.rules.proofs.States.{at_as_it_was}
 use Rattle.rules.proofs.Ways.{lead_into}
 use Rattle.rules.proofs.Accounts.{blueness, one_more_fits}
-use Rattle.rules.proofs.Words.{Made, is_shaded, Shaded, Used, UsedRoot, directory, register, kept, filled, Busy, in-hand, in-cache, PassedBy, behind, looked_at, Passed, SecondHalf, mark, scan}
+use Rattle.rules.proofs.Words.{Made, is_shaded, Shaded, Used, UsedRoot, directory, register, kept, filled, Busy, in_hand, in_cache, PassedBy, behind, looked_at, Passed, SecondHalf, mark, scan}
 use Rattle.rules.proofs.Invariant.{Structure, Control, MarksSecond, Invariant}
 use Rattle.rules.proofs.Handshaking.{traces_same}
 use Rattle.rules.proofs.SweepingOn.{at_same}
@@ -156,12 +156,12 @@ module _ (s : State) (I : Invariant s) (e : s.collector.stage ≡ Sweep) (k : �
       new_cells = record {
         unsettled = λ m c t p q n. absurd (n (at_async m t p));
         settled = λ m c t p q n. absurd (n (at_async m t p));
-        in-mark = λ m c a t p q r g. let z : ◌≡◌ {A = ℕ} 0 1 = cc in absurd (omega arith);
-        in-scan = λ m c a t p q r g. let z : ◌≡◌ {A = ℕ} 0 1 = cc in absurd (omega arith);
+        in_mark = λ m c a t p q r g. let z : ◌≡◌ {A = ℕ} 0 1 = cc in absurd (omega arith);
+        in_scan = λ m c a t p q r g. let z : ◌≡◌ {A = ℕ} 0 1 = cc in absurd (omega arith);
       };
       sweeps = record {
-        cached = λ c l. absurd (not_busy (in-cache (some_member s.cache.members c l)));
-        in-hand = λ g q. absurd (not_busy (in-hand (λ r. let z : ◌≡◌ {A = ℕ} 0 1 = cc in omega arith)));
+        cached = λ c l. absurd (not_busy (in_cache (some_member s.cache.members c l)));
+        in_hand = λ g q. absurd (not_busy (in_hand (λ r. let z : ◌≡◌ {A = ℕ} 0 1 = cc in omega arith)));
         rest_black = λ q. let z : ◌≡◌ {A = ℕ} 0 1 = cc in absurd (omega arith);
         clear_black = λ q. let z : ◌≡◌ {A = ℕ} 0 1 = cc in absurd (omega arith);
         behind = λ q c w b. let was = black_back c b in I.sweeps.behind e c (passed_back c was.0 w) was.1;

@@ -20,7 +20,7 @@ use Rattle.rules.proofs.SettledColour.{settled_not_blue, settled_white, settled_
 use Rattle.rules.proofs.SoundCells.{recoloured_sound, unlinked_sound, relinked_either, relinked_sound}
 use Rattle.rules.proofs.Words.{made_by, Made, Passed, behind, looked_at, Used, register, filled, SecondHalf, mark, scan, Marked}
 use Rattle.rules.proofs.Invariant.{Invariant, Unsettled, taken}
-use Rattle.rules.proofs.NewCell.{Behind, at_rest, at_clear, in-sweep, behind_unsettled, Table, Turn}
+use Rattle.rules.proofs.NewCell.{Behind, at_rest, at_clear, in_sweep, behind_unsettled, Table, Turn}
 
 none_blue : (k : Colour) → k ≢ Blue → blueness k ≡ 0
 none_blue Blue n = absurd (n refl)
@@ -86,8 +86,8 @@ module _ (s : State) (I : Invariant s) (m x : ℕ) (t : Task) (a : Bool) (presen
   }
     where
       black_in_half : t.status ≡ Async → SecondHalf s → s.cells.colour x ≡ Black
-      black_in_half g (mark e n) = I.new_cells.in-mark m x a t present work g e
-      black_in_half g (scan e) = I.new_cells.in-scan m x a t present work g e
+      black_in_half g (mark e n) = I.new_cells.in_mark m x a t present work g e
+      black_in_half g (scan e) = I.new_cells.in_scan m x a t present work g e
 
   -- link i holds what register j held
   pub fill_turn : (i j : ℕ) → settable s.links s.cells x i (t.registers j) ≡ true → Turn s I m x t t (relinked s.cells x i (t.registers j))
@@ -114,8 +114,8 @@ module _ (s : State) (I : Invariant s) (m x : ℕ) (t : Task) (a : Bool) (presen
       not_blue = (I.works.made_apart x made).2;
       black_first = λ g is. I.new_cells.unsettled m x t present (subst (λ y. t.work ≡ Some (Making x y)) is f) g;
       white_then = λ g is. I.new_cells.settled m x t present (subst (λ y. t.work ≡ Some (Making x y)) is f) g;
-      in-mark = λ g. I.new_cells.in-mark m x b t present f g;
-      in-scan = λ g. I.new_cells.in-scan m x b t present f g;
+      in_mark = λ g. I.new_cells.in_mark m x b t present f g;
+      in_scan = λ g. I.new_cells.in_scan m x b t present f g;
     };
     finished_white = λ f. let z : ◌≡◌ {A = ℕ} 0 1 = cc in absurd (omega arith);
     finished_black = λ f. let z : ◌≡◌ {A = ℕ} 0 1 = cc in absurd (omega arith);
@@ -184,8 +184,8 @@ module _ (s : State) (I : Invariant s) (m x : ℕ) (t : Task) (a : Bool) (presen
           not_blue = λ q. settled_not_blue t.status s.collector.swept x (sym is ∙ q);
           black_first = λ g f. let z : ◌≡◌ {A = ℕ} 0 1 = cc in absurd (omega arith);
           white_then = λ g f. is ∙ settled_white t.status s.collector.swept x g;
-          in-mark = λ g f. is ∙ settled_before t.status s.collector.swept x g (I.control.places.mark f);
-          in-scan = λ g f. is ∙ settled_before t.status s.collector.swept x g (I.control.places.scan f).2;
+          in_mark = λ g f. is ∙ settled_before t.status s.collector.swept x g (I.control.places.mark f);
+          in_scan = λ g f. is ∙ settled_before t.status s.collector.swept x g (I.control.places.scan f).2;
         };
         finished_white = λ e. let z : ◌≡◌ {A = ℕ} 0 1 = cc in absurd (omega arith);
         finished_black = λ e. let z : ◌≡◌ {A = ℕ} 0 1 = cc in absurd (omega arith);
@@ -196,8 +196,8 @@ module _ (s : State) (I : Invariant s) (m x : ℕ) (t : Task) (a : Bool) (presen
       not_black : Behind s x → settled_colour t.status s.collector.swept x ≢ Black
       not_black (at_rest e) q = settled_past t.status s.collector.swept x (I.control.places.rest e).2 q
       not_black (at_clear e) q = settled_past t.status s.collector.swept x (I.control.places.clear e).2 q
-      not_black (in-sweep e (behind {k} f l)) q = settled_passed t.status s.collector.swept k x f (omega arith) q
-      not_black (in-sweep e (looked_at f l)) q = settled_passed t.status s.collector.swept x x f (omega arith) q
+      not_black (in_sweep e (behind {k} f l)) q = settled_passed t.status s.collector.swept k x f (omega arith) q
+      not_black (in_sweep e (looked_at f l)) q = settled_passed t.status s.collector.swept x x f (omega arith) q
 
       async : s.collector.stage ≡ Sweep → t.status ≡ Async
       async e = let at = I.control.places.sweep e in ⊎_elim (λ f. f ∙ at.0) (λ f. f ∙ at.1) (I.control.statuses m t present)
@@ -213,15 +213,15 @@ is_blue Black l = absurd (omega arith)
 
 -- an idle task has x as the last added cell of its pool
 module _ (s : State) (I : Invariant s) (m x : ℕ) (t : Task) (slot : m < 8) (present : s.tasks m ≡ Some t) (idle : t.work ≡ None) (newest : t.pool ≡ x ∷ older_of t.pool) where
-  in-pool : (c : ℕ) → copies t.pool c ≡ one x c + copies (older_of t.pool) c
-  in-pool c = ap (λ xs. copies xs c) newest
+  in_pool : (c : ℕ) → copies t.pool c ≡ one x c + copies (older_of t.pool) c
+  in_pool c = ap (λ xs. copies xs c) newest
 
   -- a pool holds free cells only
   pooled_blue : s.cells.colour x ≡ Blue
   pooled_blue =
       let among = pooled_swap 8 m slot None s.tasks x in
       let mine : copies (pool_in (s.tasks m)) x ≡ copies t.pool x = ap (λ o. copies (pool_in o) x) present in
-      let held = in-pool x in
+      let held = in_pool x in
       let here : one x x ≡ 1 = cond-true (eqb x x) 1 0 (eq-eqb x x refl) in
       let all = I.structure.account x in
       is_blue (s.cells.colour x) (omega arith)
@@ -255,7 +255,7 @@ module _ (s : State) (I : Invariant s) (m x : ℕ) (t : Task) (slot : m < 8) (pr
         status = refl;
         pool = let many = ap length newest in omega (arith, I.structure.pools m t present);
         account = λ c.
-            let held = in-pool c in
+            let held = in_pool c in
             let less = bluer x (at x Black s.cells.colour) s.cells.colour (λ y e. sym (at_other x Black s.cells.colour y e)) (ap blueness is) (ap blueness pooled_blue) c in
             omega arith;
         few = λ j g. I.structure.registers m j t present g;
@@ -265,8 +265,8 @@ module _ (s : State) (I : Invariant s) (m x : ℕ) (t : Task) (slot : m < 8) (pr
           not_blue = λ q. let z : ◌≡◌ {A = ℕ} 0 1 = cc in omega arith;
           black_first = λ g f. is;
           white_then = λ g f. let z : ◌≡◌ {A = ℕ} 0 1 = cc in absurd (omega arith);
-          in-mark = λ g f. is;
-          in-scan = λ g f. is;
+          in_mark = λ g f. is;
+          in_scan = λ g f. is;
         };
         finished_white = λ e. let z : ◌≡◌ {A = ℕ} 0 1 = cc in absurd (omega arith);
         finished_black = λ e. let z : ◌≡◌ {A = ℕ} 0 1 = cc in absurd (omega arith);

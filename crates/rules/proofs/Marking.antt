@@ -14,7 +14,7 @@ use Rattle.rules.specs.State.{Task, State}
 use Rattle.rules.specs.Reach.{start, along}
 use Rattle.rules.proofs.Accounts.{blueness}
 use Rattle.rules.proofs.Ways.{lead_into, reached_have}
-use Rattle.rules.proofs.Words.{Made, made_by, is_shaded, Shaded, Kept, Used, UsedRoot, directory, register, kept, filled, ahead_of, Pending, cached, grey_in_mark, in-directory, ahead, at_scan, dirty, TracedRoot, pending, by_hand, Traced, Marked, FirstHalf, SecondHalf}
+use Rattle.rules.proofs.Words.{Made, made_by, is_shaded, Shaded, Kept, Used, UsedRoot, directory, register, kept, filled, ahead_of, Pending, cached, grey_in_mark, in_directory, ahead, at_scan, dirty, TracedRoot, pending, by_hand, Traced, Marked, FirstHalf, SecondHalf}
 use Rattle.rules.proofs.Invariant.{Structure, Control, Works, MarksFirst, MarksSecond, Invariant}
 
 -- the state with other colours, another cache and another collector
@@ -131,7 +131,7 @@ module _ (s : State) (I : Invariant s) (colour' : ℕ → Colour) (cache' : Hold
 
     module _ (was : WorksIn s.collector.stage) where
       new_black : (k x : ℕ) (a : Bool) (t : Task) → s.tasks k ≡ Some t → t.work ≡ Some (Making x a) → t.status ≡ Async → colour' x ≡ Black
-      new_black k x a t p q e = made_same x (made_by k a p q) ∙ ⊎_elim (λ g. I.new_cells.in-mark k x a t p q e g) (λ g. I.new_cells.in-scan k x a t p q e g) was
+      new_black k x a t p q e = made_same x (made_by k a p q) ∙ ⊎_elim (λ g. I.new_cells.in_mark k x a t p q e g) (λ g. I.new_cells.in_scan k x a t p q e g) was
 
       pub marking_turn : WorksIn co'.stage → cache'.manner ≡ s.cache.manner → cache'.room ≡ s.cache.room → Control s'
           → ((c : ℕ) → 0 < copies cache'.members c → Kept s' c) → ((h : Hand) → co'.hand ≡ Some h → Kept s' h.cell × (h.link < s.links))
@@ -145,12 +145,12 @@ module _ (s : State) (I : Invariant s) (colour' : ℕ → Colour) (cache' : Hold
         new_cells = record {
           unsettled = λ k x t p q n. made_same x (made_by k false p q) ∙ I.new_cells.unsettled k x t p q n;
           settled = λ k x t p q n. made_same x (made_by k true p q) ∙ I.new_cells.settled k x t p q n;
-          in-mark = λ k x a t p q e g. new_black k x a t p q e;
-          in-scan = λ k x a t p q e g. new_black k x a t p q e;
+          in_mark = λ k x a t p q e g. new_black k x a t p q e;
+          in_scan = λ k x a t p q e g. new_black k x a t p q e;
         };
         sweeps = record {
           cached = cached_kept;
-          in-hand = hand_kept;
+          in_hand = hand_kept;
           rest_black = λ e x q. no_rest goes e;
           clear_black = λ e x q. no_clear goes e;
           behind = λ e x w q. no_sweep goes e;
@@ -193,7 +193,7 @@ module _ (s : State) (I : Invariant s) (colour' : ℕ → Colour) (cache' : Hold
         pending_marked : {c : ℕ} → Pending s' c → Marked s I.Cut c
         pending_marked {c} (cached l) = kept_marked (cached_kept c l)
         pending_marked (grey_in_mark e k g) = kept_marked k
-        pending_marked {c} (in-directory e l h n) = M.directory c h
+        pending_marked {c} (in_directory e l h n) = M.directory c h
         pending_marked (ahead e p l k g) = kept_marked k
         pending_marked (at_scan e p l k g) = kept_marked k
         pending_marked (dirty e p k g) = kept_marked k

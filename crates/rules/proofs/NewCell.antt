@@ -18,7 +18,7 @@ use Rattle.rules.proofs.Accounts.{blueness}
 use Rattle.rules.proofs.Ways.{reached_have}
 use Rattle.rules.proofs.States.{at_here}
 use Rattle.rules.proofs.Slots.{at_cases, at_other}
-use Rattle.rules.proofs.Words.{made_by, Made, Kept, Passed, Used, UsedRoot, directory, register, kept, filled, SecondHalf, Pending, cached, grey_in_mark, in-directory, ahead, at_scan, dirty, Marked}
+use Rattle.rules.proofs.Words.{made_by, Made, Kept, Passed, Used, UsedRoot, directory, register, kept, filled, SecondHalf, Pending, cached, grey_in_mark, in_directory, ahead, at_scan, dirty, Marked}
 use Rattle.rules.proofs.Touched.{kept_used, hand_kept, pending_used}
 use Rattle.rules.proofs.Apart.{traced_across}
 use Rattle.rules.proofs.Invariant.{Invariant, Unsettled, taken}
@@ -27,15 +27,15 @@ use Rattle.rules.proofs.Invariant.{Invariant, Unsettled, taken}
 pub data Behind (s : State) (x : ℕ) : Type 0 where
   at_rest : s.collector.stage ≡ Rest → Behind s x
   at_clear : s.collector.stage ≡ Clear → Behind s x
-  in-sweep : s.collector.stage ≡ Sweep → Passed s x → Behind s x
+  in_sweep : s.collector.stage ≡ Sweep → Passed s x → Behind s x
 
 -- the colour of a cell that a task of this status makes
 pub record NewColour (s : State) (q : Status) (settled : Bool) (colour : Colour) : Type 0 where
   pub not_blue : colour ≢ Blue
   pub black_first : q ≢ Async → settled ≡ false → colour ≡ Black
   pub white_then : q ≢ Async → settled ≡ true → colour ≡ White
-  pub in-mark : q ≡ Async → s.collector.stage ≡ Mark → colour ≡ Black
-  pub in-scan : q ≡ Async → s.collector.stage ≡ Scan → colour ≡ Black
+  pub in_mark : q ≡ Async → s.collector.stage ≡ Mark → colour ≡ Black
+  pub in_scan : q ≡ Async → s.collector.stage ≡ Scan → colour ≡ Black
 
 -- cells n that differ from those before at x only, where they name what a task t may name
 pub record Table (s : State) (I : Invariant s) (x : ℕ) (t : Task) (n : Cells) : Type 0 where
@@ -69,7 +69,7 @@ pub record Turn (s : State) (I : Invariant s) (m x : ℕ) (t u : Task) (n : Cell
 pub behind_unsettled : (s : State) → Invariant s → (x : ℕ) → Behind s x → s.cells.colour x ≡ Black → Unsettled s x
 behind_unsettled s I x (at_rest e) = I.sweeps.rest_black e x
 behind_unsettled s I x (at_clear e) = I.sweeps.clear_black e x
-behind_unsettled s I x (in-sweep e l) = I.sweeps.behind e x l
+behind_unsettled s I x (in_sweep e l) = I.sweeps.behind e x l
 
 async_or_not : (q : Status) → (q ≡ Async) ⊎ (q ≢ Async)
 async_or_not Async = inl refl
@@ -241,7 +241,7 @@ module _ {s : State} {I : Invariant s} {m x : ℕ} {t u : Task} {n : Cells} (T :
     pending_near : (c : ℕ) → Pending s' c → Used s c
     pending_near c (cached l) = kept_used s I (I.sweeps.cached c l)
     pending_near c (grey_in_mark e k g) = kept_near c k g
-    pending_near c (in-directory e l h b) = start (directory h)
+    pending_near c (in_directory e l h b) = start (directory h)
     pending_near c (ahead e p l k g) = kept_near c k g
     pending_near c (at_scan e p l k g) = kept_near c k g
     pending_near c (dirty e p k g) = kept_near c k g

@@ -15,7 +15,7 @@ use Rattle.rules.specs.Pools.{pool_in}
 use Rattle.rules.proofs.Slots.{at_cases, at_other, pooled_swap}
 use Rattle.rules.proofs.Words.{is_shaded, made_by, Made, Shaded, Kept, Passed, Used, directory, register, FirstHalf, SecondHalf, Marked}
 use Rattle.rules.proofs.Touched.{kept_used, marked_used}
-use Rattle.rules.proofs.NewCell.{Behind, at_rest, at_clear, in-sweep, behind_unsettled, Turn, Out, filled_slot, slot, used_apart, place, changing_on, making_on, made_back, unsettled_on, keep_on, keep_back, out_not_made, kept_async, used_back, mark_on, mark_back}
+use Rattle.rules.proofs.NewCell.{Behind, at_rest, at_clear, in_sweep, behind_unsettled, Turn, Out, filled_slot, slot, used_apart, place, changing_on, making_on, made_back, unsettled_on, keep_on, keep_back, out_not_made, kept_async, used_back, mark_on, mark_back}
 use Rattle.rules.proofs.Places.{Places}
 use Rattle.rules.proofs.Invariant.{Structure, Control, Works, Safe, NewCells, Sweeps, MarksFirst, MarksSecond, Invariant, Unsettled, taken}
 
@@ -121,10 +121,10 @@ module _ {s : State} {I : Invariant s} {m x : ℕ} {t u : Task} {n : Cells} (T :
             (λ e g. (T.new_colour false e).black_first (λ h. g (T.status ∙ h)) refl) (λ r. N.unsettled k c v r q);
         settled = λ k c v p q. new_colours (λ (w : Task) y. w.status ≢ Async → y ≡ White) k c true v p q
             (λ e g. (T.new_colour true e).white_then (λ h. g (T.status ∙ h)) refl) (λ r. N.settled k c v r q);
-        in-mark = λ k c a v p q. new_colours (λ (w : Task) y. w.status ≡ Async → s.collector.stage ≡ Mark → y ≡ Black) k c a v p q
-            (λ e g. (T.new_colour a e).in-mark (sym T.status ∙ g)) (λ r. N.in-mark k c a v r q);
-        in-scan = λ k c a v p q. new_colours (λ (w : Task) y. w.status ≡ Async → s.collector.stage ≡ Scan → y ≡ Black) k c a v p q
-            (λ e g. (T.new_colour a e).in-scan (sym T.status ∙ g)) (λ r. N.in-scan k c a v r q);
+        in_mark = λ k c a v p q. new_colours (λ (w : Task) y. w.status ≡ Async → s.collector.stage ≡ Mark → y ≡ Black) k c a v p q
+            (λ e g. (T.new_colour a e).in_mark (sym T.status ∙ g)) (λ r. N.in_mark k c a v r q);
+        in_scan = λ k c a v p q. new_colours (λ (w : Task) y. w.status ≡ Async → s.collector.stage ≡ Scan → y ≡ Black) k c a v p q
+            (λ e g. (T.new_colour a e).in_scan (sym T.status ∙ g)) (λ r. N.in_scan k c a v r q);
       }
 
   -- the cell of an unfinished change can be touched
@@ -146,10 +146,10 @@ module _ {s : State} {I : Invariant s} {m x : ℕ} {t u : Task} {n : Cells} (T :
       let W = I.sweeps in
       record {
         cached = λ c l. keep_on T (W.cached c l);
-        in-hand = λ h e. let a = W.in-hand h e in (keep_on T a.0, a.1);
+        in_hand = λ h e. let a = W.in_hand h e in (keep_on T a.0, a.1);
         rest_black = λ e c. behind_black c (at_rest e);
         clear_black = λ e c. behind_black c (at_clear e);
-        behind = λ e c l. behind_black c (in-sweep e l);
+        behind = λ e c l. behind_black c (in_sweep e l);
         ahead_used = λ e c y q. ⊎_elim
             (λ (a : Used s c). W.ahead_used e c a (sym (T.table.colours c (used_apart T c a)) ∙ q))
             (λ (a : (c ≡ x) × Out T). subst (Passed s) (sym a.0) (T.white e (ap n.colour (sym a.0) ∙ q)))

@@ -16,10 +16,10 @@ use Rattle.rules.specs.State.{State, Task, with_collector}
 use Rattle.rules.specs.Reach.{start, along}
 use Rattle.rules.specs.Collecting.{after_sync, all_agree, next_phase}
 use Rattle.rules.proofs.Ways.{lead_into}
-use Rattle.rules.proofs.Words.{is_shaded, Shaded, Kept, Used, directory, register, Holding, ahead_of, cached, grey_in_mark, in-directory, ahead, at_scan, dirty, Follows, TracedRoot, pending, by_hand, Traced, Marked, FirstHalf, SecondHalf, mark}
-use Rattle.rules.proofs.Places.{placed, in-mark}
+use Rattle.rules.proofs.Words.{is_shaded, Shaded, Kept, Used, directory, register, Holding, ahead_of, cached, grey_in_mark, in_directory, ahead, at_scan, dirty, Follows, TracedRoot, pending, by_hand, Traced, Marked, FirstHalf, SecondHalf, mark}
+use Rattle.rules.proofs.Places.{placed, in_mark}
 use Rattle.rules.proofs.Invariant.{Control, MarksFirst, MarksSecond, Invariant}
-use Rattle.rules.proofs.Touched.{in-hand-or-not, kept_used, traced_used, shaded_kept}
+use Rattle.rules.proofs.Touched.{in_hand_or_not, kept_used, traced_used, shaded_kept}
 use Rattle.rules.proofs.Handshaking.{all_agree_lem, traces_same}
 use Rattle.rules.proofs.Marking.{marking_turn, second_goes_on}
 
@@ -112,7 +112,7 @@ rephased_traced s asked phase Cut = lead_into roots (λ x c f p. along p (follow
     roots : (c : ℕ) → TracedRoot s Cut c → Traced s' Cut c
     roots c (pending (cached l)) = start (pending (cached l))
     roots c (pending (grey_in_mark q k g)) = start (pending (grey_in_mark q k g))
-    roots c (pending (in-directory q l h n)) = start (pending (in-directory q l h n))
+    roots c (pending (in_directory q l h n)) = start (pending (in_directory q l h n))
     roots c (pending (ahead q p l k g)) = start (pending (ahead q p l k g))
     roots c (pending (at_scan q p l k g)) = start (pending (at_scan q p l k g))
     roots c (pending (dirty q p k g)) = start (pending (dirty q p k g))
@@ -131,7 +131,7 @@ module _ (s : State) (I : Invariant s) (e : s.collector.stage ≡ Mark) (agree :
   control_on status later =
       let K = I.control in
       record {
-        places = placed e refl refl (K.places.mark e) (K.places.unscanned (λ q. let z : ◌≡◌ {A = ℕ} 0 1 = cc in omega arith)) (in-mark (inr (status, later)));
+        places = placed e refl refl (K.places.mark e) (K.places.unscanned (λ q. let z : ◌≡◌ {A = ℕ} 0 1 = cc in omega arith)) (in_mark (inr (status, later)));
         nothing_traced = λ n o u. n e;
         statuses = λ m t p. inr (agreed m t p);
         scan_looked = λ q u k r. let z : ◌≡◌ {A = ℕ} 0 1 = cc in absurd (omega arith);
@@ -139,7 +139,7 @@ module _ (s : State) (I : Invariant s) (e : s.collector.stage ≡ Mark) (agree :
 
   phase_turn : (status : after_sync s.collector.status ≡ Async) → s.collector.status ≢ Sync1 → (Cut : ℕ → ℕ → Bool) → (SecondHalf s' → MarksSecond s' Cut) → Invariant s'
   phase_turn status later Cut second = marking_turn s I s.cells.colour s.cache s'.collector (λ c. inl refl) (inl e) (inl e) refl refl (control_on status later)
-      I.sweeps.cached I.sweeps.in-hand I.sweeps.directory (λ h. absurd (later h.1)) Cut second
+      I.sweeps.cached I.sweeps.in_hand I.sweeps.directory (λ h. absurd (later h.1)) Cut second
 
   -- to Sync2: the second half begins, with the fields cut that are under change
   module _ (asked : s.collector.status ≡ Sync2) (half : FirstHalf s) where
@@ -206,7 +206,7 @@ module _ (s : State) (I : Invariant s) (e : s.collector.stage ≡ Mark) (agree :
         (λ (h : Holding s.collector x i). followed_marked x i c (kept_used s I k) n
         (λ f q. start (by_hand x f (subst (Holding s'.collector x) (sym q) (hand_on h)))))
         (λ (h : ¬ (Holding s.collector x i)). used_shaded c (along (kept_used s I k) (i, n)) (F.black_to_shaded x i c k b (λ m. omega arith) h n))
-        (in-hand-or-not s.collector x i))
+        (in_hand_or_not s.collector x i))
         (cases_lt 0 (copies s.cache.members x)))
         (shaded_colour (s.cells.colour x) k.0)
 
@@ -219,7 +219,7 @@ module _ (s : State) (I : Invariant s) (e : s.collector.stage ≡ Mark) (agree :
         (λ (m : c < s.collector.next). used_shaded c (start (directory l)) (I.sweeps.directory e c m l))
         (λ (m : s.collector.next ≤ c). ⊎_elim
         (λ (b : s.cells.colour c ≡ Black). used_shaded c (start (directory l)) (ap is_shaded b))
-        (λ (b : s.cells.colour c ≢ Black). inr (start (pending (in-directory e m l b))))
+        (λ (b : s.cells.colour c ≢ Black). inr (start (pending (in_directory e m l b))))
         (black_or_not (s.cells.colour c)))
         (cases_lt c s.collector.next)
 
@@ -243,7 +243,7 @@ module _ (s : State) (I : Invariant s) (e : s.collector.stage ≡ Mark) (agree :
   module _ (asked : s.collector.status ≡ Async) (half : SecondHalf s) where
     pub last_phase_kept : Invariant s'
     last_phase_kept = phase_turn (ap after_sync asked) (λ q. let z : ◌≡◌ {A = ℕ} 0 1 = cc in omega arith) I.Cut
-        (λ h. second_goes_on s I s.cells.colour s.cache s'.collector (λ c. inl refl) half (λ c. inl refl) I.sweeps.cached I.sweeps.in-hand
+        (λ h. second_goes_on s I s.cells.colour s.cache s'.collector (λ c. inl refl) half (λ c. inl refl) I.sweeps.cached I.sweeps.in_hand
         (λ c t. inr (rephased_traced s (after_sync s.collector.status) s.collector.status I.Cut t)))
 
   pub phase_kept : Invariant (next_phase s)

@@ -35,8 +35,8 @@ in_rest = record {
   unscanned = λ n. refl;
 }
 
-pub in-clear : {n : ℕ} → Places Clear Sync1 Async Past Unscanned n
-in-clear = record {
+pub in_clear : {n : ℕ} → Places Clear Sync1 Async Past Unscanned n
+in_clear = record {
   rest = λ e. let z : ◌≡◌ {A = ℕ} 0 1 = cc in absurd (omega arith);
   clear = λ e. (refl, refl, refl);
   mark = λ e. let z : ◌≡◌ {A = ℕ} 0 1 = cc in absurd (omega arith);
@@ -48,8 +48,8 @@ in-clear = record {
   unscanned = λ n. refl;
 }
 
-pub in-mark : {asked phase : Status} {n : ℕ} → ((asked ≡ Sync2) × (phase ≡ Sync1)) ⊎ ((asked ≡ Async) × (phase ≢ Sync1)) → Places Mark asked phase Before Unscanned n
-in-mark statuses = record {
+pub in_mark : {asked phase : Status} {n : ℕ} → ((asked ≡ Sync2) × (phase ≡ Sync1)) ⊎ ((asked ≡ Async) × (phase ≢ Sync1)) → Places Mark asked phase Before Unscanned n
+in_mark statuses = record {
   rest = λ e. let z : ◌≡◌ {A = ℕ} 0 1 = cc in absurd (omega arith);
   clear = λ e. let z : ◌≡◌ {A = ℕ} 0 1 = cc in absurd (omega arith);
   mark = λ e. refl;
@@ -61,8 +61,8 @@ in-mark statuses = record {
   unscanned = λ n. refl;
 }
 
-pub in-scan : {k n : ℕ} → k ≤ n → Places Scan Async Async Before (ScannedAt k) n
-in-scan {k} inside = record {
+pub in_scan : {k n : ℕ} → k ≤ n → Places Scan Async Async Before (ScannedAt k) n
+in_scan {k} inside = record {
   rest = λ e. let z : ◌≡◌ {A = ℕ} 0 1 = cc in absurd (omega arith);
   clear = λ e. let z : ◌≡◌ {A = ℕ} 0 1 = cc in absurd (omega arith);
   mark = λ e. let z : ◌≡◌ {A = ℕ} 0 1 = cc in absurd (omega arith);
@@ -74,8 +74,8 @@ in-scan {k} inside = record {
   unscanned = λ n. absurd (n refl);
 }
 
-pub in-sweep : {k n : ℕ} → k < n → Places Sweep Async Async (At k) Unscanned n
-in-sweep {k} inside = record {
+pub in_sweep : {k n : ℕ} → k < n → Places Sweep Async Async (At k) Unscanned n
+in_sweep {k} inside = record {
   rest = λ e. let z : ◌≡◌ {A = ℕ} 0 1 = cc in absurd (omega arith);
   clear = λ e. let z : ◌≡◌ {A = ℕ} 0 1 = cc in absurd (omega arith);
   mark = λ e. let z : ◌≡◌ {A = ℕ} 0 1 = cc in absurd (omega arith);

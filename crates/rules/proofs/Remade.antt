@@ -5,7 +5,7 @@ use Rattle.bags.specs.Holding.{Hold}
 use Rattle.rules.specs.declared.Collector.{Collector}
 use Rattle.rules.specs.Reach.{From, start, along}
 use Rattle.rules.proofs.Ways.{lead_into}
-use Rattle.rules.proofs.Words.{KeptOf, PendingOf, cached, grey_in_mark, in-directory, ahead, at_scan, dirty, FollowsOf, TraceRoot, pending, by_hand, MarkedOf}
+use Rattle.rules.proofs.Words.{KeptOf, PendingOf, cached, grey_in_mark, in_directory, ahead, at_scan, dirty, FollowsOf, TraceRoot, pending, by_hand, MarkedOf}
 
 module _ (m : Cells) (cache : Hold) (co : Collector) (d : ℕ) (made made' : ℕ → Type 0) (back : (x : ℕ) → made' x → made x) where
   pub kept_on : {x : ℕ} → KeptOf m cache co d made x → KeptOf m cache co d made' x
@@ -14,7 +14,7 @@ module _ (m : Cells) (cache : Hold) (co : Collector) (d : ℕ) (made made' : ℕ
   pending_on : {c : ℕ} → PendingOf m cache co d made c → PendingOf m cache co d made' c
   pending_on (cached l) = cached l
   pending_on (grey_in_mark e k g) = grey_in_mark e (kept_on k) g
-  pending_on (in-directory e l h n) = in-directory e l h n
+  pending_on (in_directory e l h n) = in_directory e l h n
   pending_on (ahead e p l k g) = ahead e p l (kept_on k) g
   pending_on (at_scan e p l k g) = at_scan e p l (kept_on k) g
   pending_on (dirty e p k g) = dirty e p (kept_on k) g

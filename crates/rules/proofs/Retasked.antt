@@ -171,8 +171,8 @@ module _ (s : State) (I : Invariant s) (m : ℕ) (t : Task) (present : s.tasks m
       record {
         unsettled = λ k x v p e n. N.unsettled k x v (makes_on k x false v p e) e n;
         settled = λ k x v p e n. N.settled k x v (makes_on k x true v p e) e n;
-        in-mark = λ k x a v p e g h. N.in-mark k x a v (makes_on k x a v p e) e g h;
-        in-scan = λ k x a v p e g h. N.in-scan k x a v (makes_on k x a v p e) e g h;
+        in_mark = λ k x a v p e g h. N.in_mark k x a v (makes_on k x a v p e) e g h;
+        in_scan = λ k x a v p e g h. N.in_scan k x a v (makes_on k x a v p e) e g h;
       }
 
   still_sweeps : Sweeps s'
@@ -180,7 +180,7 @@ module _ (s : State) (I : Invariant s) (m : ℕ) (t : Task) (present : s.tasks m
       let W = I.sweeps in
       record {
         cached = λ c l. keep_on (W.cached c l);
-        in-hand = λ h e. let a = W.in-hand h e in (keep_on a.0, a.1);
+        in_hand = λ h e. let a = W.in_hand h e in (keep_on a.0, a.1);
         rest_black = λ e x b. unsettled_on x (W.rest_black e x b);
         clear_black = λ e x b. unsettled_on x (W.clear_black e x b);
         behind = λ e x h b. unsettled_on x (W.behind e x h b);

@@ -13,8 +13,8 @@ use Rattle.rules.specs.State.{State, Task}
 use Rattle.rules.specs.Reach.{start, along}
 use Rattle.rules.specs.Collecting.{scan_from, sweep_from}
 use Rattle.rules.proofs.Ways.{lead_into, reached_have}
-use Rattle.rules.proofs.Words.{Made, made_by, Kept, Used, UsedRoot, directory, register, kept, filled, Busy, PassedBy, behind, looked_at, Pending, cached, grey_in_mark, in-directory, ahead, at_scan, dirty, Follows, TracedRoot, pending, by_hand, Traced, Marked, SecondHalf, mark, scan}
-use Rattle.rules.proofs.Places.{placed, in-scan, in-sweep}
+use Rattle.rules.proofs.Words.{Made, made_by, Kept, Used, UsedRoot, directory, register, kept, filled, Busy, PassedBy, behind, looked_at, Pending, cached, grey_in_mark, in_directory, ahead, at_scan, dirty, Follows, TracedRoot, pending, by_hand, Traced, Marked, SecondHalf, mark, scan}
+use Rattle.rules.proofs.Places.{placed, in_scan, in_sweep}
 use Rattle.rules.proofs.Invariant.{MarksSecond, Invariant}
 use Rattle.rules.proofs.Touched.{kept_used}
 use Rattle.rules.proofs.Handshaking.{quiet_turn, traces_same}
@@ -50,15 +50,15 @@ module _ (s : State) (I : Invariant s) (was : WorksIn s.collector.stage) (free-h
       let K = I.control in
       marking_turn s I s.cells.colour s.cache s'.collector (λ c. inl refl) was (inr refl) refl refl
       (record {
-        places = placed refl async.0 async.1 async.2 refl (in-scan inside);
+        places = placed refl async.0 async.1 async.2 refl (in_scan inside);
         nothing_traced = λ n o u. o refl;
         statuses = K.statuses;
         scan_looked = λ e u j q. absurd (still_idle u);
       })
-      I.sweeps.cached I.sweeps.in-hand (λ e. let z : ◌≡◌ {A = ℕ} 0 1 = cc in absurd (omega arith))
+      I.sweeps.cached I.sweeps.in_hand (λ e. let z : ◌≡◌ {A = ℕ} 0 1 = cc in absurd (omega arith))
       (λ h. let e = h.0 in let z : ◌≡◌ {A = ℕ} 0 1 = cc in absurd (omega arith))
       I.Cut
-      (λ h. second_goes_on s I s.cells.colour s.cache s'.collector (λ c. inl refl) half (λ c. inl refl) I.sweeps.cached I.sweeps.in-hand traced_on)
+      (λ h. second_goes_on s I s.cells.colour s.cache s'.collector (λ c. inl refl) half (λ c. inl refl) I.sweeps.cached I.sweeps.in_hand traced_on)
 
 no_copies : (xs : List ℕ) (c : ℕ) → length xs ≡ 0 → copies xs c ≡ 0
 no_copies [] c e = refl
@@ -88,7 +88,7 @@ module _ (s : State) (I : Invariant s) (free-hand : s.collector.hand ≡ None) (
       pending_on : (c : ℕ) → Pending s c → Pending (scan_from s false 0) c
       pending_on c (cached l) = nothing_cached c l
       pending_on c (grey_in_mark q k g) = grey_ahead false c k g
-      pending_on c (in-directory q l h n) = absurd (omega arith)
+      pending_on c (in_directory q l h n) = absurd (omega arith)
       pending_on c (ahead q p l k g) = grey_ahead false c k g
       pending_on c (at_scan q p l k g) = grey_ahead false c k g
       pending_on c (dirty q p k g) = grey_ahead false c k g
@@ -105,7 +105,7 @@ module _ (s : State) (I : Invariant s) (free-hand : s.collector.hand ≡ None) (
         pending_on : (c : ℕ) → Pending s c → Pending (scan_from s s.collector.dirty (here + 1)) c
         pending_on c (cached l) = nothing_cached c l
         pending_on c (grey_in_mark q h g) = not_in_mark q
-        pending_on c (in-directory q l h n) = not_in_mark q
+        pending_on c (in_directory q l h n) = not_in_mark q
         pending_on c (ahead {k} q p l h g) =
             let same : k ≡ here = scanned_same (sym p ∙ place) in
             ⊎_elim
@@ -122,7 +122,7 @@ module _ (s : State) (I : Invariant s) (free-hand : s.collector.hand ≡ None) (
         pending_on : (c : ℕ) → Pending s c → Pending (scan_from s false 0) c
         pending_on c (cached l) = nothing_cached c l
         pending_on c (grey_in_mark q k g) = not_in_mark q
-        pending_on c (in-directory q l h n) = not_in_mark q
+        pending_on c (in_directory q l h n) = not_in_mark q
         pending_on c (ahead q p l k g) = grey_ahead false c k g
         pending_on c (at_scan q p l k g) = grey_ahead false c k g
         pending_on c (dirty q p k g) = grey_ahead false c k g
@@ -135,7 +135,7 @@ module _ (s : State) (I : Invariant s) (free-hand : s.collector.hand ≡ None) (
       nothing_pending : (c : ℕ) → ¬ (Pending s c)
       nothing_pending c (cached l) = nothing_cached c l
       nothing_pending c (grey_in_mark q h g) = not_in_mark q
-      nothing_pending c (in-directory q l h n) = not_in_mark q
+      nothing_pending c (in_directory q l h n) = not_in_mark q
       nothing_pending c (ahead {k} q p l h g) = let same : k ≡ here = scanned_same (sym p ∙ place) in let near = (I.safe c (kept_used s I h)).0 in omega arith
       nothing_pending c (at_scan q p l h g) = let same : c ≡ here = scanned_same (sym p ∙ place) in let near = (I.safe c (kept_used s I h)).0 in omega arith
       nothing_pending c (dirty q p h g) = let z : ◌≡◌ {A = ℕ} 0 1 = cc in omega arith
@@ -179,14 +179,14 @@ module _ (s : State) (I : Invariant s) (free-hand : s.collector.hand ≡ None) (
           let at = K.places.scan e in
           quiet_turn s I _ (λ q. let z : ◌≡◌ {A = ℕ} 0 1 = cc in omega arith) (λ q. let z : ◌≡◌ {A = ℕ} 0 1 = cc in omega arith)
           (record {
-            places = placed refl at.0 at.1 refl refl (in-sweep (omega (arith, I.structure.some, I.structure.within)));
+            places = placed refl at.0 at.1 refl refl (in_sweep (omega (arith, I.structure.some, I.structure.within)));
             nothing_traced = λ n o u. not_busy s I free-hand empty (traces_same refl u);
             statuses = K.statuses;
             scan_looked = λ q u j r. let z : ◌≡◌ {A = ℕ} 0 1 = cc in absurd (omega arith);
           })
           (record {
             cached = I.sweeps.cached;
-            in-hand = I.sweeps.in-hand;
+            in_hand = I.sweeps.in_hand;
             rest_black = λ q. let z : ◌≡◌ {A = ℕ} 0 1 = cc in absurd (omega arith);
             clear_black = λ q. let z : ◌≡◌ {A = ℕ} 0 1 = cc in absurd (omega arith);
             behind = λ q x w b. absurd (not_passed w);
@@ -197,4 +197,4 @@ module _ (s : State) (I : Invariant s) (free-hand : s.collector.hand ≡ None) (
           })
         where
           made_not_white : (x : ℕ) → Made s x → ¬ (s.cells.colour x ≡ White)
-          made_not_white x (made_by m a {t} p q) w = let black = I.new_cells.in-scan m x a t p q (at_async m t p) e in let z : ◌≡◌ {A = ℕ} 0 1 = cc in omega arith
+          made_not_white x (made_by m a {t} p q) w = let black = I.new_cells.in_scan m x a t p q (at_async m t p) e in let z : ◌≡◌ {A = ℕ} 0 1 = cc in omega arith

@@ -9,8 +9,8 @@ use Rattle.rules.specs.declared.Swept.TheVariants.{Before, At, Past}
 use Rattle.rules.specs.Changes.{settled_colour}
 
 -- while the sweep is at k
-in-sweep : (k x : ℕ) → ((x < k) × (settled_colour Async (At k) x ≡ White)) ⊎ (((x ≡ k) × (settled_colour Async (At k) x ≡ Grey)) ⊎ ((k < x) × (settled_colour Async (At k) x ≡ Black)))
-in-sweep k x = ⊎_elim
+in_sweep : (k x : ℕ) → ((x < k) × (settled_colour Async (At k) x ≡ White)) ⊎ (((x ≡ k) × (settled_colour Async (At k) x ≡ Grey)) ⊎ ((k < x) × (settled_colour Async (At k) x ≡ Black)))
+in_sweep k x = ⊎_elim
     (λ (l : x < k). inl (l, cond-true (ltb x k) White (cond (eqb x k) Grey Black) (lt-ltb x k l)))
     (λ (g : k ≤ x).
     let on = cond-false (ltb x k) White (cond (eqb x k) Grey Black) (le-ltb x k g) in
@@ -25,7 +25,7 @@ settled_not_blue Async Before x e = let z : ◌≡◌ {A = ℕ} 0 1 = cc in omeg
 settled_not_blue Async (At k) x e = ⊎_elim
     (λ a. let f = a.1 in let z : ◌≡◌ {A = ℕ} 0 1 = cc in omega arith)
     (⊎_elim (λ a. let f = a.1 in let z : ◌≡◌ {A = ℕ} 0 1 = cc in omega arith) (λ a. let f = a.1 in let z : ◌≡◌ {A = ℕ} 0 1 = cc in omega arith))
-    (in-sweep k x)
+    (in_sweep k x)
 settled_not_blue Async Past x e = let z : ◌≡◌ {A = ℕ} 0 1 = cc in omega arith
 settled_not_blue Sync1 w x e = let z : ◌≡◌ {A = ℕ} 0 1 = cc in omega arith
 settled_not_blue Sync2 w x e = let z : ◌≡◌ {A = ℕ} 0 1 = cc in omega arith
@@ -49,7 +49,7 @@ settled_passed Async w k x e l f =
     ⊎_elim
     (λ a. let g = a.1 in let z : ◌≡◌ {A = ℕ} 0 1 = cc in omega arith)
     (⊎_elim (λ a. let g = a.1 in let z : ◌≡◌ {A = ℕ} 0 1 = cc in omega arith) (λ a. omega (arith, a.0)))
-    (in-sweep k x)
+    (in_sweep k x)
 settled_passed Sync1 w k x e l f = let z : ◌≡◌ {A = ℕ} 0 1 = cc in omega arith
 settled_passed Sync2 w k x e l f = let z : ◌≡◌ {A = ℕ} 0 1 = cc in omega arith
 
@@ -59,4 +59,4 @@ settled_ahead q w k x e f g =
     ⊎_elim
     (λ a. a.0)
     (⊎_elim (λ a. let h = a.1 in let z : ◌≡◌ {A = ℕ} 0 1 = cc in absurd (omega arith)) (λ a. let h = a.1 in let z : ◌≡◌ {A = ℕ} 0 1 = cc in absurd (omega arith)))
-    (in-sweep k x)
+    (in_sweep k x)

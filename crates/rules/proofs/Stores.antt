@@ -9,7 +9,7 @@ use Rattle.rules.specs.State.{Task, State, with_cells}
 use Rattle.rules.specs.Reach.{start, along, Names}
 use Rattle.rules.proofs.Ways.{lead_into}
 use Rattle.rules.proofs.Slots.{at_cases, at_other}
-use Rattle.rules.proofs.Words.{Shaded, Used, UsedRoot, directory, register, kept, filled, FirstHalf, SecondHalf, Pending, cached, grey_in_mark, in-directory, ahead, at_scan, dirty, Follows, TracedRoot, pending, by_hand, Traced, Marked}
+use Rattle.rules.proofs.Words.{Shaded, Used, UsedRoot, directory, register, kept, filled, FirstHalf, SecondHalf, Pending, cached, grey_in_mark, in_directory, ahead, at_scan, dirty, Follows, TracedRoot, pending, by_hand, Traced, Marked}
 use Rattle.rules.proofs.Halves.{async_or_not, first_not_async}
 use Rattle.rules.proofs.Invariant.{Structure, MarksFirst, MarksSecond, Invariant}
 
@@ -81,7 +81,7 @@ module _ (s : State) (I : Invariant s) (m : ℕ) (t : Task) (present : s.tasks m
   pending_on : {c : ℕ} → Pending s c → Pending s' c
   pending_on (cached l) = cached l
   pending_on (grey_in_mark e k g) = grey_in_mark e k g
-  pending_on (in-directory e l h n) = in-directory e l h n
+  pending_on (in_directory e l h n) = in_directory e l h n
   pending_on (ahead e p l k g) = ahead e p l k g
   pending_on (at_scan e p l k g) = at_scan e p l k g
   pending_on (dirty e p k g) = dirty e p k g
@@ -89,7 +89,7 @@ module _ (s : State) (I : Invariant s) (m : ℕ) (t : Task) (present : s.tasks m
   pending_back : {c : ℕ} → Pending s' c → Pending s c
   pending_back (cached l) = cached l
   pending_back (grey_in_mark e k g) = grey_in_mark e k g
-  pending_back (in-directory e l h n) = in-directory e l h n
+  pending_back (in_directory e l h n) = in_directory e l h n
   pending_back (ahead e p l k g) = ahead e p l k g
   pending_back (at_scan e p l k g) = at_scan e p l k g
   pending_back (dirty e p k g) = dirty e p k g
@@ -230,12 +230,12 @@ module _ (s : State) (I : Invariant s) (m : ℕ) (t : Task) (present : s.tasks m
     new_cells = record {
       unsettled = I.new_cells.unsettled;
       settled = I.new_cells.settled;
-      in-mark = I.new_cells.in-mark;
-      in-scan = I.new_cells.in-scan;
+      in_mark = I.new_cells.in_mark;
+      in_scan = I.new_cells.in_scan;
     };
     sweeps = record {
       cached = I.sweeps.cached;
-      in-hand = I.sweeps.in-hand;
+      in_hand = I.sweeps.in_hand;
       rest_black = I.sweeps.rest_black;
       clear_black = I.sweeps.clear_black;
       behind = I.sweeps.behind;

@@ -9,7 +9,7 @@ use Rattle.rules.specs.State.{State}
 use Rattle.rules.specs.Collecting.{sweep_to}
 use Rattle.rules.proofs.Handshaking.{quiet_turn, traces_same}
 use Rattle.rules.proofs.Words.{PassedBy, behind, looked_at, Passed}
-use Rattle.rules.proofs.Places.{placed, in_rest, in-sweep}
+use Rattle.rules.proofs.Places.{placed, in_rest, in_sweep}
 use Rattle.rules.proofs.Invariant.{Invariant}
 
 pub at_same : {a b : ℕ} → ◌≡◌ {A = Swept} (At a) (At b) → a ≡ b
@@ -34,14 +34,14 @@ module _ (s : State) (I : Invariant s) (g : s.collector.stage ≡ Sweep) (k : �
       let at = K.places.sweep g in
       quiet_turn s I _ (λ e. let z : ◌≡◌ {A = ℕ} 0 1 = cc in omega arith) (λ e. let z : ◌≡◌ {A = ℕ} 0 1 = cc in omega arith)
       (record {
-        places = placed refl at.0 at.1 refl (K.places.unscanned (λ e. let z : ◌≡◌ {A = ℕ} 0 1 = cc in omega arith)) (in-sweep more);
+        places = placed refl at.0 at.1 refl (K.places.unscanned (λ e. let z : ◌≡◌ {A = ℕ} 0 1 = cc in omega arith)) (in_sweep more);
         nothing_traced = λ n o u. K.nothing_traced (λ e. let z : ◌≡◌ {A = ℕ} 0 1 = cc in omega arith) (λ e. let z : ◌≡◌ {A = ℕ} 0 1 = cc in omega arith) (traces_same refl u);
         statuses = K.statuses;
         scan_looked = λ e u j q. let z : ◌≡◌ {A = ℕ} 0 1 = cc in absurd (omega arith);
       })
       (record {
         cached = I.sweeps.cached;
-        in-hand = I.sweeps.in-hand;
+        in_hand = I.sweeps.in_hand;
         rest_black = λ e. let z : ◌≡◌ {A = ℕ} 0 1 = cc in absurd (omega arith);
         clear_black = λ e. let z : ◌≡◌ {A = ℕ} 0 1 = cc in absurd (omega arith);
         behind = λ e x w. I.sweeps.behind g x (past x (back x w));
@@ -69,7 +69,7 @@ module _ (s : State) (I : Invariant s) (g : s.collector.stage ≡ Sweep) (k : �
       })
       (record {
         cached = I.sweeps.cached;
-        in-hand = I.sweeps.in-hand;
+        in_hand = I.sweeps.in_hand;
         rest_black = λ e x b. I.sweeps.behind g x (past x (inside x b)) b;
         clear_black = λ e. let z : ◌≡◌ {A = ℕ} 0 1 = cc in absurd (omega arith);
         behind = λ e. let z : ◌≡◌ {A = ℕ} 0 1 = cc in absurd (omega arith);

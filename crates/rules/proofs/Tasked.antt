@@ -22,9 +22,9 @@ pub record Offers (s : State) (u : Task) : Type 0 where
 pub offers_own : (s : State) (m : ℕ) (t : Task) → s.tasks m ≡ Some t → Offers s t
 offers_own s m t present = record { registers = λ j c q. start (register m j present q); making = λ c b q. inl (start (making m b present q)) }
 
-in-slot : (change : Task → Task) (o : Option Task) (u : Task) → in_slot change o ≡ Some u → (t : Task) × ((o ≡ Some t) × (change t ≡ u))
-in-slot change None u e = let z : ◌≡◌ {A = ℕ} 0 1 = cc in absurd (omega arith)
-in-slot change (Some t) u e = let same : change t ≡ u = cc in (t, (refl, same))
+in_slot_lem : (change : Task → Task) (o : Option Task) (u : Task) → in_slot change o ≡ Some u → (t : Task) × ((o ≡ Some t) × (change t ≡ u))
+in_slot_lem change None u e = let z : ◌≡◌ {A = ℕ} 0 1 = cc in absurd (omega arith)
+in_slot_lem change (Some t) u e = let same : change t ≡ u = cc in (t, (refl, same))
 
 module _ (s s' : State) (m : ℕ) (same : s'.directory ≡ s.directory) where
   -- roots once slot m was written
@@ -46,7 +46,7 @@ module _ (s s' : State) (m : ℕ) (same : s'.directory ≡ s.directory) where
   pub changed_roots : (change : Task → Task) → s'.tasks ≡ at m (in_slot change (s.tasks m)) s.tasks → ((t : Task) → s.tasks m ≡ Some t → Offers s (change t))
       → (c : ℕ) → Root s' c → InReach s c ⊎ (s.cells.colour c ≡ Blue)
   changed_roots change is f = slot_roots (in_slot change (s.tasks m)) is
-      (λ u e. let found = in-slot change (s.tasks m) u e in subst (Offers s) found.1.1 (f found.0 found.1.0))
+      (λ u e. let found = in_slot_lem change (s.tasks m) u e in subst (Offers s) found.1.1 (f found.0 found.1.0))
 
 module _ (s : State) (I : Invariant s) where
   -- the stage of the collector and the place of its sweep are as they were

@@ -6,15 +6,15 @@ use Rattle.rules.specs.declared.Collector.{Collector}
 use Rattle.rules.specs.State.{State}
 use Rattle.rules.specs.Reach.{start, along}
 use Rattle.rules.proofs.Ways.{reached_have}
-use Rattle.rules.proofs.Words.{Shaded, Kept, Used, directory, kept, Pending, Traced, TracedRoot, pending, by_hand, Marked, cached, grey_in_mark, in-directory, ahead, at_scan, dirty, ahead_of, Holding}
+use Rattle.rules.proofs.Words.{Shaded, Kept, Used, directory, kept, Pending, Traced, TracedRoot, pending, by_hand, Marked, cached, grey_in_mark, in_directory, ahead, at_scan, dirty, ahead_of, Holding}
 use Rattle.rules.proofs.Invariant.{Invariant}
 
 hand_same : {a b : Hand} → ◌≡◌ {A = Option Hand} (Some a) (Some b) → a ≡ b
 hand_same e = cc
 
 -- whether the hand has link i of x still to follow
-pub in-hand-or-not : (co : Collector) (x i : ℕ) → Holding co x i ⊎ (¬ (Holding co x i))
-in-hand-or-not co x i = by_hand co.hand refl
+pub in_hand_or_not : (co : Collector) (x i : ℕ) → Holding co x i ⊎ (¬ (Holding co x i))
+in_hand_or_not co x i = by_hand co.hand refl
   where
     by_hand : (o : Option Hand) → co.hand ≡ o → Holding co x i ⊎ (¬ (Holding co x i))
     by_hand None e = inr empty
@@ -40,12 +40,12 @@ module _ (s : State) (I : Invariant s) where
   kept_used k = start (kept k)
 
   pub hand_kept : {x i : ℕ} → Holding s.collector x i → Kept s x
-  hand_kept (ahead_of e l) = (I.sweeps.in-hand _ e).0
+  hand_kept (ahead_of e l) = (I.sweeps.in_hand _ e).0
 
   pub pending_used : {c : ℕ} → Pending s c → Used s c
   pending_used {c} (cached l) = kept_used (I.sweeps.cached c l)
   pending_used (grey_in_mark e k g) = kept_used k
-  pending_used (in-directory e l h n) = start (directory h)
+  pending_used (in_directory e l h n) = start (directory h)
   pending_used (ahead e p l k g) = kept_used k
   pending_used (at_scan e p l k g) = kept_used k
   pending_used (dirty e p k g) = kept_used k

@@ -12,7 +12,7 @@ use Rattle.rules.specs.State.{State, Outcome}
 use Rattle.rules.specs.Greying.{is_grey}
 use Rattle.rules.specs.Reach.{start, along}
 use Rattle.rules.specs.Collecting.{blacken, blacken_if, next_hand, with_hand, with_next, with_looked, tracing, looking}
-use Rattle.rules.proofs.Words.{Made, made_by, is_shaded, Kept, Used, directory, kept, Busy, Traces, in-hand, in-cache, InHand, Holding, ahead_of}
+use Rattle.rules.proofs.Words.{Made, made_by, is_shaded, Kept, Used, directory, kept, Busy, Traces, in_hand, in_cache, InHand, Holding, ahead_of}
 use Rattle.rules.proofs.Invariant.{Invariant}
 use Rattle.rules.proofs.Marking.{WorksIn}
 use Rattle.rules.proofs.GoingOn.{going, take_kept}
@@ -25,7 +25,7 @@ some_same e = cc
 -- with a cell in hand, what its next link names is blackened
 module _ (s : State) (I : Invariant s) (was : WorksIn s.collector.stage) (h : Hand) (held : s.collector.hand ≡ Some h) where
   hand_cell : Kept s h.cell × (h.link < s.links)
-  hand_cell = I.sweeps.in-hand h held
+  hand_cell = I.sweeps.in_hand h held
 
   abbrev target : Option ℕ
   target = s.cells.link h.cell h.link
@@ -69,7 +69,7 @@ module _ (s : State) (I : Invariant s) (was : WorksIn s.collector.stage) (h : Ha
       (cases_lt (h.link + 1) s.links)
 
   busy : Busy s
-  busy = in-hand (λ e. let z : ◌≡◌ {A = ℕ} 0 1 = cc in omega arith)
+  busy = in_hand (λ e. let z : ◌≡◌ {A = ℕ} 0 1 = cc in omega arith)
 
   pub followed_kept : Invariant (with_hand (blacken_if s target) (next_hand s.links h.cell h.link))
   followed_kept = blackened_by_rule (λ t. Invariant (with_hand t (next_hand s.links h.cell h.link))) s target (λ v e. (I.safe v (named_used v e)).0)
@@ -105,15 +105,15 @@ module _ (s : State) (I : Invariant s) (free-hand : s.collector.hand ≡ None) (
       (cases_lt 0 (length s.cache.members))
 
   pub not_busy : ¬ (Busy s)
-  not_busy (in-hand n) = n free-hand
-  not_busy (in-cache l) = let none = no_members in omega arith
+  not_busy (in_hand n) = n free-hand
+  not_busy (in_cache l) = let none = no_members in omega arith
 
   -- the next directory cell is blackened
   pub directory_kept : s.collector.stage ≡ Mark → s.collector.next < s.directory → Invariant (with_next (blacken s s.collector.next) (s.collector.next + 1))
-  directory_kept e near = blackened_by_rule (λ t. Invariant (with_next t (s.collector.next + 1))) s (Some s.collector.next) (λ v q. (I.safe v (in-directory v q)).0)
+  directory_kept e near = blackened_by_rule (λ t. Invariant (with_next t (s.collector.next + 1))) s (Some s.collector.next) (λ v q. (I.safe v (in_directory v q)).0)
       (λ colour cache unclean b. blackening_kept s I (Some s.collector.next) colour cache unclean b (s.collector.next + 1) s.collector.looked s.collector.hand (record {
         was = inl e;
-        used = in-directory;
+        used = in_directory;
         marked = λ half c q. (I.second_half half).directory c (near_cell c q);
         hand_left = λ x j c a q. absurd (idle_hand a);
         hand_kept = λ h q. let z : ◌≡◌ {A = ℕ} 0 1 = cc in absurd (omega arith);
@@ -127,8 +127,8 @@ module _ (s : State) (I : Invariant s) (free-hand : s.collector.hand ≡ None) (
       near_cell : (c : ℕ) → Some s.collector.next ≡ Some c → c < s.directory
       near_cell c q = let same : s.collector.next ≡ c = cc in subst (λ k. k < s.directory) same near
 
-      in-directory : (c : ℕ) → Some s.collector.next ≡ Some c → Used s c
-      in-directory c q = start (directory (near_cell c q))
+      in_directory : (c : ℕ) → Some s.collector.next ≡ Some c → Used s c
+      in_directory c q = start (directory (near_cell c q))
 
   -- the cell at scanned is looked at, and blackened if it is Grey
   module _ (e : s.collector.stage ≡ Scan) (k : ℕ) (place : s.collector.scanned ≡ ScannedAt k) (inside : k < s.cells.size) where
@@ -137,7 +137,7 @@ module _ (s : State) (I : Invariant s) (free-hand : s.collector.hand ≡ None) (
     grey_not_made g (made_by m a {t} p q) =
         let at = I.control.places.scan e in
         let async : t.status ≡ Async = ⊎_elim (λ (r : t.status ≡ s.collector.status). r ∙ at.0) (λ (r : t.status ≡ s.collector.phase). r ∙ at.1) (I.control.statuses m t p) in
-        let black = I.new_cells.in-scan m k a t p q async e in
+        let black = I.new_cells.in_scan m k a t p q async e in
         let z : ◌≡◌ {A = ℕ} 0 1 = cc in omega arith
 
     grey_looked : s.cells.colour k ≡ Grey → Invariant (with_looked (blacken s k) true)
@@ -160,8 +160,8 @@ module _ (s : State) (I : Invariant s) (free-hand : s.collector.hand ≡ None) (
         kept_cell c q = let same : k ≡ c = cc in subst (Kept s) same (ap is_shaded g, grey_not_made g)
 
     still_idle : ¬ (Traces (going s.collector s.collector.dirty s.collector.next true s.collector.hand) s.cache)
-    still_idle (in-hand n) = n free-hand
-    still_idle (in-cache l) = let none = no_members in omega arith
+    still_idle (in_hand n) = n free-hand
+    still_idle (in_cache l) = let none = no_members in omega arith
 
     other_looked : s.cells.colour k ≢ Grey → Invariant (with_looked s true)
     other_looked n = blackening_kept s I None s.cells.colour s.cache s.collector.dirty nothing s.collector.next true s.collector.hand (record {

@@ -4,7 +4,7 @@ use Rattle.rules.specs.State.{State, with_collector}
 use Rattle.rules.specs.Reach.{start, along}
 use Rattle.rules.specs.Changes.{with_dirty}
 use Rattle.rules.proofs.Ways.{lead_into, reached_have}
-use Rattle.rules.proofs.Words.{behind, looked_at, Passed, Holding, ahead_of, mark, scan, FirstHalf, SecondHalf, Pending, cached, grey_in_mark, in-directory, ahead, at_scan, dirty, Follows, TracedRoot, pending, by_hand, Traced, Marked}
+use Rattle.rules.proofs.Words.{behind, looked_at, Passed, Holding, ahead_of, mark, scan, FirstHalf, SecondHalf, Pending, cached, grey_in_mark, in_directory, ahead, at_scan, dirty, Follows, TracedRoot, pending, by_hand, Traced, Marked}
 use Rattle.rules.proofs.Invariant.{Control, Sweeps, MarksFirst, MarksSecond, Invariant}
 use Rattle.rules.proofs.Handshaking.{structure_same, works_same, traces_same}
 use Rattle.rules.proofs.Touched.{hand_kept}
@@ -34,7 +34,7 @@ module _ (s : State) (I : Invariant s) (again : Bool) (stays : s.collector.dirty
   pending_on : {c : ℕ} → Pending s c → Pending s' c
   pending_on (cached l) = cached l
   pending_on (grey_in_mark e k g) = grey_in_mark e k g
-  pending_on (in-directory e l h n) = in-directory e l h n
+  pending_on (in_directory e l h n) = in_directory e l h n
   pending_on (ahead e p l k g) = ahead e p l k g
   pending_on (at_scan e p l k g) = at_scan e p l k g
   pending_on (dirty e p k g) = dirty e (stays p) k g
@@ -43,7 +43,7 @@ module _ (s : State) (I : Invariant s) (again : Bool) (stays : s.collector.dirty
     pending_back : {c : ℕ} → Pending s' c → Marked s Cut c
     pending_back (cached l) = inr (start (pending (cached l)))
     pending_back (grey_in_mark e k g) = inl k
-    pending_back (in-directory e l h n) = inr (start (pending (in-directory e l h n)))
+    pending_back (in_directory e l h n) = inr (start (pending (in_directory e l h n)))
     pending_back (ahead e p l k g) = inl k
     pending_back (at_scan e p l k g) = inl k
     pending_back (dirty e p k g) = inl k
@@ -85,7 +85,7 @@ module _ (s : State) (I : Invariant s) (again : Bool) (stays : s.collector.dirty
       let W = I.sweeps in
       record {
         cached = W.cached;
-        in-hand = W.in-hand;
+        in_hand = W.in_hand;
         rest_black = W.rest_black;
         clear_black = W.clear_black;
         behind = λ e x w q. W.behind e x (passed_back x w) q;
@@ -127,8 +127,8 @@ module _ (s : State) (I : Invariant s) (again : Bool) (stays : s.collector.dirty
     new_cells = record {
       unsettled = I.new_cells.unsettled;
       settled = I.new_cells.settled;
-      in-mark = I.new_cells.in-mark;
-      in-scan = I.new_cells.in-scan;
+      in_mark = I.new_cells.in_mark;
+      in_scan = I.new_cells.in_scan;
     };
     sweeps = still_sweeps;
     first_half = still_first;

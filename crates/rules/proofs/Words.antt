@@ -31,8 +31,8 @@ pub data PassedBy (co : Collector) (x : ℕ) : Type 0 where
 
 -- the collector has a cell to trace from
 pub data Traces (co : Collector) (cache : Hold) : Type 0 where
-  in-hand : co.hand ≢ None → Traces co cache
-  in-cache : 0 < length cache.members → Traces co cache
+  in_hand : co.hand ≢ None → Traces co cache
+  in_cache : 0 < length cache.members → Traces co cache
 
 -- the hand is at cell x and has link i still to follow
 pub data Holding (co : Collector) (x i : ℕ) : Type 0 where
@@ -48,7 +48,7 @@ module _ (m : Cells) (cache : Hold) (co : Collector) (d : ℕ) (made : ℕ → T
   pub data PendingOf (c : ℕ) : Type 0 where
     cached : 0 < copies cache.members c → PendingOf c
     grey_in_mark : co.stage ≡ Mark → KeptOf c → m.colour c ≡ Grey → PendingOf c
-    in-directory : co.stage ≡ Mark → co.next ≤ c → c < d → m.colour c ≢ Black → PendingOf c
+    in_directory : co.stage ≡ Mark → co.next ≤ c → c < d → m.colour c ≢ Black → PendingOf c
     ahead : {k : ℕ} → co.stage ≡ Scan → co.scanned ≡ ScannedAt k → k < c → KeptOf c → m.colour c ≡ Grey → PendingOf c
     at_scan : co.stage ≡ Scan → co.scanned ≡ ScannedAt c → co.looked ≡ false → KeptOf c → m.colour c ≡ Grey → PendingOf c
     dirty : co.stage ≡ Scan → co.dirty ≡ true → KeptOf c → m.colour c ≡ Grey → PendingOf c

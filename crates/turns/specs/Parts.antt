@@ -2,7 +2,6 @@
 use Rattle.std.specs.Prelude.{◌≡◌, ℕ, Option, Result}
 use Rattle.cells.specs.declared.CellMemory.{Ghosts as MemoryGhosts}
 use Rattle.cells.specs.Memory.{Cells}
-use Rattle.bags.specs.declared.Bag.{Ghosts as BagGhosts}
 use Rattle.bags.specs.Holding.{Hold}
 use Rattle.rules.specs.declared.Refusal.{Refusal}
 use Rattle.rules.specs.declared.Collector.{Collector}
@@ -35,9 +34,3 @@ module _ {M : Type 0} (m : MemoryGhosts M) where
     pub result : (free cache : Hold)
         → record { answer = r; after = state_with (m.means memory') m.links free cache d tasks' co' } ≡ rule (state_with (m.means memory) m.links free cache d tasks co)
     pub rest : m.spare memory' ≡ m.spare memory
-
--- one that touches the free list and the tasks
-pub record OnPools {F : Type 0} (f : BagGhosts F) (rule : State → Outcome) (d : ℕ) (free free' : F) (tasks tasks' : ℕ → Option Task) (r : Result ℕ Refusal) : Type 0 where
-  pub result : (cells : Cells) (links : ℕ) (cache : Hold) (co : Collector)
-      → record { answer = r; after = state_with cells links (f.means free') cache d tasks' co } ≡ rule (state_with cells links (f.means free) cache d tasks co)
-  pub rest : f.spare free' ≡ f.spare free

@@ -3,9 +3,8 @@ ghost use Rattle.std.specs.Prelude.{◌≡◌};
 ghost use Rattle.rules.specs.Changes.{change_checks, carry_on_checks};
 ghost use Rattle.tasks.specs.Parts.{tasks_of};
 
-use super::has_slot;
 use rules::{Refusal, Work};
-use tasks::Tasks;
+use tasks::{Tasks, has_slot};
 
 // The cell whose link i, one of so many, is to change, and its new value.
 pub fn check_change(

@@ -3,9 +3,8 @@ ghost use Rattle.std.specs.Prelude.{◌≡◌};
 ghost use Rattle.rules.specs.Handshake.{launch_checks, cooperate_checks};
 ghost use Rattle.tasks.specs.Parts.{tasks_of};
 
-use super::has_slot;
 use rules::{Refusal, Status};
-use tasks::Tasks;
+use tasks::{Tasks, has_slot};
 
 // Task m may launch a task in slot p while the collector asks for this status.
 pub fn check_launch(tasks: &Tasks, d: u16, asked: Status, m: usize, p: usize) -> Result<(), Refusal>

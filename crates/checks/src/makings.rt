@@ -3,9 +3,8 @@ ghost use Rattle.std.specs.Prelude.{◌≡◌};
 ghost use Rattle.rules.specs.Makings.{make_checks, fill_checks, finish_checks, scrap_checks};
 ghost use Rattle.tasks.specs.Parts.{tasks_of};
 
-use super::has_slot;
 use rules::Refusal;
-use tasks::Tasks;
+use tasks::{Tasks, has_slot};
 
 // The cell that is to be made.
 pub fn check_make(tasks: &Tasks, d: u16, m: usize) -> Result<u16, Refusal>

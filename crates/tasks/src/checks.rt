@@ -10,7 +10,7 @@ use super::parts::Tasks;
 use rules::{Refusal, Status};
 
 // There are eight slots, and none before the set up.
-fn has_slot(d: u16, m: usize) -> bool
+pub fn has_slot(d: u16, m: usize) -> bool
     ensures { result ≡ has_slot d m }
 {
     d != 0 && m < 8

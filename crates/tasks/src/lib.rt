@@ -19,6 +19,7 @@ mod agreement;
 mod checks;
 mod parts;
 
+pub use checks::has_slot;
 pub use parts::{Pool, Task, Tasks};
 
 impl Pool {

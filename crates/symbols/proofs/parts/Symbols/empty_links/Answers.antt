@@ -2,7 +2,8 @@ use Rattle.std.proofs.Common.{ap, ◌∙◌, arith}
 use Rattle.rules.specs.State.{State, with_cells}
 use Rattle.symbols.specs.Laying.{emptying_link}
 use Rattle.symbols.specs.Views.{state_of}
-use Rattle.symbols.proofs.Emptying.{one_emptied, all_emptied}
+use Rattle.cellwork.proofs.Emptying.{all_emptied}
+use Rattle.symbols.proofs.Emptying.{one_emptied}
 use Rattle.symbols.proofs.Loans.{same_then}
 use Rattle.symbols.proofs.parts.Symbols.empty_links.Goals as goal
 

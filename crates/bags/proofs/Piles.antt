@@ -1,5 +1,5 @@
 -- What a pile holds after a put and after a take, from what is written in its row.
-use Rattle.std.proofs.Common.{◌≡◌, ℕ, zero, suc, ◌+◌, ◌-◌, ◌<◌, ◌≤◌, true, List, ◌∷◌, length, get_or, set, Ok, sym, refl, ap, ◌∙◌, ap₂, add-one, arith, length-set}
+use Rattle.std.proofs.Common.{◌≡◌, ℕ, zero, suc, ◌+◌, ◌<◌, ◌≤◌, true, List, ◌∷◌, length, get_or, set, Ok, sym, refl, ap, ◌∙◌, ap₂, add-one, arith, length-set}
 use Rattle.std.proofs.lemmas.Bool.{cond-true, lt-ltb}
 use Rattle.std.proofs.lemmas.List.{get_or-set_same, get_or-set_other}
 use Rattle.bags.specs.Holding.{has_room, has_member, put_answer, put_into, take_answer, taken_from}
@@ -15,9 +15,6 @@ pub stacked_set_next : (row : List ℕ) (n x : ℕ) → n < length row → stack
 stacked_set_next row n x within =
     ap (stacked (set row n x)) (add-one n)
     ∙ ap₂ (λ y ys. y ∷ ys) (get_or-set_same row n x 0 within) (stacked_set_above row n x n (omega arith))
-
-stacked_last : (row : List ℕ) (n : ℕ) → 0 < n → stacked row n ≡ get_or row (n - 1) 0 ∷ stacked row (n - 1)
-stacked_last row n some = let back : n ≡ suc (n - 1) = omega arith in ap (stacked row) back
 
 -- n is what the pile's count answered
 module _ (row : List ℕ) (len n : ℕ) (is_count : n ≡ pile_count row len) where
@@ -43,19 +40,19 @@ module _ (row : List ℕ) (len n : ℕ) (is_count : n ≡ pile_count row len) wh
         ap (λ k. set row k x) (sym members_count)
         ∙ sym (cond-true (has_room (pile_hold row len)) _ _ has_room_lem)
 
-  module _ (some : 0 < n) where
+  module _ (left : ℕ) (one_more : n ≡ suc left) where
     has_member_lem : has_member (pile_hold row len) ≡ true
     has_member_lem = lt-ltb 0 (length (pile_hold row len).members) (omega (arith, members_count))
 
-    newest_first_lem : stacked row (pile_count row len) ≡ get_or row (n - 1) 0 ∷ stacked row (n - 1)
-    newest_first_lem = ap (stacked row) (sym is_count) ∙ stacked_last row n some
+    newest_first_lem : stacked row (pile_count row len) ≡ get_or row left 0 ∷ stacked row left
+    newest_first_lem = ap (stacked row) (sym is_count ∙ one_more)
 
-    pub take_newest : Ok (get_or row (n - 1) 0) ≡ take_answer (pile_hold row len)
+    pub take_newest : Ok (get_or row left 0) ≡ take_answer (pile_hold row len)
     take_newest =
         ap (λ xs. Ok (newest_first.choice xs)) (sym newest_first_lem)
         ∙ sym (cond-true (has_member (pile_hold row len)) _ _ has_member_lem)
 
-    pub take_from_top : pile_hold row (n - 1) ≡ taken_from (pile_hold row len)
+    pub take_from_top : pile_hold row left ≡ taken_from (pile_hold row len)
     take_from_top =
         ap (λ k. pile_of (stacked row k) (length row)) (omega (arith, is_count))
         ∙ ap (λ xs. pile_of (newest_first.rest xs) (length row)) (sym newest_first_lem)

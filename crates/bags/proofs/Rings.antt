@@ -41,10 +41,8 @@ round_set_next s f n x whole within =
     ap (round t f) (add-one n) ∙ round_last t f n
     ∙ ap₂ (λ xs y. xs ++ y ∷ []) (round_set_past s f n n x (omega arith) within) (get_or-set_same s ((f + n) % ring_room) x 0 (omega arith))
 
-round_first : (s : List ℕ) (f n : ℕ) → f < ring_room → 0 < n → round s f n ≡ get_or s f 0 ∷ round s ((f + 1) % ring_room) (n - 1)
-round_first s f n start some =
-    let back : n ≡ suc (n - 1) = omega arith in
-    ap (round s f) back ∙ ap₂ (λ i xs. get_or s i 0 ∷ xs) (omega arith) (sym (round_wrap s (f + 1) (n - 1)))
+round_first : (s : List ℕ) (f n : ℕ) → f < ring_room → round s f (suc n) ≡ get_or s f 0 ∷ round s ((f + 1) % ring_room) n
+round_first s f n start = ap₂ (λ i xs. get_or s i 0 ∷ xs) (omega arith) (sym (round_wrap s (f + 1) n))
 
 module _ (s : List ℕ) (f n : ℕ) where
   module _ (within : n < ring_room) where
@@ -57,19 +55,19 @@ module _ (s : List ℕ) (f n : ℕ) where
     pub put_at_end : (x : ℕ) → length s ≡ ring_room → ring_hold (set s ((f + n) % ring_room) x) f (n + 1) ≡ put_into (ring_hold s f n) x
     put_at_end x whole = ap ring_of (round_set_next s f n x whole within) ∙ sym (cond-true (has_room (ring_hold s f n)) _ _ has_room_lem)
 
-  module _ (start : f < ring_room) (some : 0 < n) where
+  module _ (start : f < ring_room) (left : ℕ) (one_more : n ≡ suc left) where
     has_member_lem : has_member (ring_hold s f n) ≡ true
     has_member_lem = lt-ltb 0 (length (round s f n)) (omega (arith, round_length s f n))
 
-    oldest_first_lem : round s f n ≡ get_or s f 0 ∷ round s ((f + 1) % ring_room) (n - 1)
-    oldest_first_lem = round_first s f n start some
+    oldest_first_lem : round s f n ≡ get_or s f 0 ∷ round s ((f + 1) % ring_room) left
+    oldest_first_lem = ap (round s f) one_more ∙ round_first s f left start
 
     pub take_oldest : Ok (get_or s f 0) ≡ take_answer (ring_hold s f n)
     take_oldest =
         ap (λ xs. Ok (oldest_first.choice xs)) (sym oldest_first_lem)
         ∙ sym (cond-true (has_member (ring_hold s f n)) _ _ has_member_lem)
 
-    pub take_from_start : ring_hold s ((f + 1) % ring_room) (n - 1) ≡ taken_from (ring_hold s f n)
+    pub take_from_start : ring_hold s ((f + 1) % ring_room) left ≡ taken_from (ring_hold s f n)
     take_from_start =
         ap (λ xs. ring_of (oldest_first.rest xs)) (sym oldest_first_lem)
         ∙ sym (cond-true (has_member (ring_hold s f n)) _ _ has_member_lem)

@@ -13,19 +13,16 @@ pub use ring::Ring;
 
 #[derive(Clone, Copy, PartialEq, Eq, Debug)]
 pub enum BagRefusal {
-    Full,
-    Empty,
+    Full = 23,
+    Empty = 24,
 }
 
-impl BagRefusal {
-    // The number by which hosts know the refusal.
-    pub fn number(self) -> u16
-        ensures { result ≡ bag_refusal_number self }
-    {
-        match self {
-            BagRefusal::Full => 23,
-            BagRefusal::Empty => 24,
-        }
+// The number by which hosts know the refusal.
+impl From<BagRefusal> for u16 {
+    ghost from_gives = { λ refusal number. number ≡ bag_refusal_number refusal };
+
+    fn from(refusal: BagRefusal) -> u16 {
+        refusal as u16
     }
 }
 
@@ -46,6 +43,7 @@ pub trait Bag {
     fn capacity(&self) -> usize
         ensures { result ≡ (means self.now).room };
 
+    // Its clauses and those of take stay apart: in one relation each call would name five terms, and read no plainer.
     fn put(&mut self, x: u16) -> Result<(), BagRefusal>
         ensures answer { result ≡ put_answer (means self.old) }
         ensures after { means self.new ≡ put_into (means self.old) x }

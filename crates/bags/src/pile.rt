@@ -6,7 +6,8 @@ ghost use Rattle.bags.specs.Stacks.{empty_pile, pile_count, pile_means, pile_sou
 
 use super::{Bag, BagRefusal};
 
-// The first `len` numbers of the row are the members; a longer `len` is read as the row's length.
+// The first `len` numbers of the row are the members; a longer `len` is read as the row's length. The row is the host's memory,
+// and there is no heap for a `Vec`.
 #[derive(Drop)]
 pub struct Pile<'a> {
     row: &'a mut [u16],
@@ -51,6 +52,7 @@ impl<'a> Bag for Pile<'a> {
         ensures exact { self.new.row.now ≡ row_after_put (pile_means self.old) self.old.row.now x }
     {
         let n = self.count();
+        // Tested and then indexed: of a row written through `get_mut` the proof knows no number.
         if n >= self.row.len() {
             return Err(BagRefusal::Full);
         }
@@ -65,11 +67,8 @@ impl<'a> Bag for Pile<'a> {
         ensures rest { self.new.row.ghost_name ≡ self.old.row.ghost_name }
         ensures exact { self.new.row.now ≡ self.old.row.now }
     {
-        let n = self.count();
-        if n == 0 {
-            return Err(BagRefusal::Empty);
-        }
-        self.len = n - 1;
-        Ok(self.row[n - 1])
+        let top = self.count().checked_sub(1).ok_or(BagRefusal::Empty)?;
+        self.len = top;
+        Ok(self.row[top])
     }
 }

@@ -6,7 +6,8 @@ use super::{Bag, BagRefusal};
 
 const SLOTS: usize = 32;
 
-// The `len` members stand from slot `first` on, and slot 0 follows the last one.
+// The `len` members stand from slot `first` on, and slot 0 follows the last one. An array of its own, and no library's buffer:
+// `circular_buffer` lies on the heap, and an `ArrayVec` would move every member at a take.
 #[derive(Drop)]
 pub struct Ring {
     slots: [u16; SLOTS],
@@ -56,12 +57,9 @@ impl Bag for Ring {
     }
 
     fn take(&mut self) -> Result<u16, BagRefusal> {
-        if self.len == 0 {
-            return Err(BagRefusal::Empty);
-        }
+        self.len = self.len.checked_sub(1).ok_or(BagRefusal::Empty)?;
         let oldest = self.slots[self.first];
         self.first = (self.first + 1) % SLOTS;
-        self.len -= 1;
         Ok(oldest)
     }
 }

@@ -1,11 +1,11 @@
 // A cell memory in a row of records, four links to a cell.
 ghost use Rattle.std.specs.Borrow.{GName};
-ghost use Rattle.std.specs.Prelude.{◌≡◌, ◌<◌, List, length, slice_set};
+ghost use Rattle.std.specs.Prelude.{◌≡◌, List};
 ghost use Rattle.cells.specs.declared.board.CellRecord.{CellRecord as Row};
 ghost use Rattle.cells.specs.Memory.{colour_taken, link_taken, coloured, linked};
 ghost use Rattle.cells.specs.Rows.{board_mean, board_spare, rows_sound, four_few, rows_coloured, rows_linked};
 
-use super::codes::{MOST_CELLS, decoded, fits, link_of, word_of};
+use super::codes::{MOST_CELLS, link_of, place_of, place_with_link, word_of};
 use super::{CellMemory, Colour, MemoryRefusal};
 
 // A cell in numbers alone, so that a host in C can lend a row of them: a colour code, which counts modulo 4,
@@ -36,8 +36,6 @@ impl<'a> CellMemory for Board<'a> {
 
     ghost links = { 4 };
 
-    ghost few = { four_few };
-
     ghost means = { board_mean };
 
     ghost sound = { λ s. rows_sound s.rows.now };
@@ -57,11 +55,8 @@ impl<'a> CellMemory for Board<'a> {
     }
 
     fn colour(&self, cell: u16) -> Result<Colour, MemoryRefusal> {
-        if cell < self.count() {
-            Ok(decoded(self.rows[cell as usize].colour))
-        } else {
-            Err(MemoryRefusal::Outside)
-        }
+        let place = place_of(cell, self.count())?;
+        Ok(Colour::from(self.rows[place].colour))
     }
 
     fn set_colour(&mut self, cell: u16, colour: Colour) -> Result<(), MemoryRefusal>
@@ -70,20 +65,15 @@ impl<'a> CellMemory for Board<'a> {
         ensures rest { board_spare self.new ≡ board_spare self.old }
         ensures exact { self.new.rows.now ≡ rows_coloured self.old.rows.now cell colour }
     {
-        if cell >= self.count() {
-            return Err(MemoryRefusal::Outside);
-        }
-        self.rows[cell as usize].colour = colour.code();
+        let place = place_of(cell, self.count())?;
+        self.rows[place].colour = u8::from(colour);
         Ok(())
     }
 
     fn link(&self, cell: u16, i: usize) -> Result<Option<u16>, MemoryRefusal> {
         let n = self.count();
-        if cell >= n || i >= Self::LINKS {
-            return Err(MemoryRefusal::Outside);
-        }
-        let word = self.rows[cell as usize].links[i];
-        Ok(link_of(word, n))
+        let place = place_with_link(cell, i, n, Self::LINKS)?;
+        Ok(link_of(self.rows[place].links[i], n))
     }
 
     fn set_link(&mut self, cell: u16, i: usize, value: Option<u16>) -> Result<(), MemoryRefusal>
@@ -93,19 +83,13 @@ impl<'a> CellMemory for Board<'a> {
         ensures exact { self.new.rows.now ≡ rows_linked self.old.rows.now cell i value }
     {
         let n = self.count();
-        if cell >= n || i >= Self::LINKS || !fits(value, n) {
-            return Err(MemoryRefusal::Outside);
-        }
-        set_one(&mut self.rows[cell as usize].links, i, word_of(value));
+        let place = place_with_link(cell, i, n, Self::LINKS)?;
+        let word = word_of(value, n)?;
+        // Borrowed first, so that the check knows the array's length.
+        let links = &mut self.rows[place].links;
+        links[i] = word;
         Ok(())
     }
-}
 
-// The array is lent, so that one link is written and not all four.
-fn set_one(links: &mut [u16; 4], i: usize, word: u16)
-    requires { i < 4 }
-    ensures four { length links.old ≡ 4 }
-    ensures after { links.new ≡ slice_set links.old i word }
-{
-    links[i] = word;
+    ghost few = { four_few };
 }

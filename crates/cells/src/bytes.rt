@@ -4,7 +4,7 @@ ghost use Rattle.std.specs.Prelude.{◌≡◌, ℕ, ◌+◌, ◌<◌, List, leng
 ghost use Rattle.cells.specs.Memory.{colour_taken, link_taken, coloured, linked};
 ghost use Rattle.cells.specs.Stretch.{stretch_mean, stretch_spare, bytes_sound, two_few, link_place, word_at, word_put, bytes_coloured, bytes_linked};
 
-use super::codes::{MOST_CELLS, decoded, fits, link_of, word_of};
+use super::codes::{MOST_CELLS, link_of, place_of, place_with_link, word_of};
 use super::{CellMemory, Colour, MemoryRefusal};
 
 const CELL_BYTES: usize = 5;
@@ -28,8 +28,6 @@ impl<'a> CellMemory for Bytes<'a> {
 
     ghost links = { 2 };
 
-    ghost few = { two_few };
-
     ghost means = { stretch_mean };
 
     ghost sound = { λ s. bytes_sound s.bytes.now };
@@ -49,11 +47,8 @@ impl<'a> CellMemory for Bytes<'a> {
     }
 
     fn colour(&self, cell: u16) -> Result<Colour, MemoryRefusal> {
-        if cell < self.count() {
-            Ok(decoded(self.bytes[CELL_BYTES * cell as usize]))
-        } else {
-            Err(MemoryRefusal::Outside)
-        }
+        let place = place_of(cell, self.count())?;
+        Ok(Colour::from(self.bytes[CELL_BYTES * place]))
     }
 
     fn set_colour(&mut self, cell: u16, colour: Colour) -> Result<(), MemoryRefusal>
@@ -62,18 +57,14 @@ impl<'a> CellMemory for Bytes<'a> {
         ensures rest { stretch_spare self.new ≡ stretch_spare self.old }
         ensures exact { self.new.bytes.now ≡ bytes_coloured self.old.bytes.now cell colour }
     {
-        if cell >= self.count() {
-            return Err(MemoryRefusal::Outside);
-        }
-        self.bytes[CELL_BYTES * cell as usize] = colour.code();
+        let place = place_of(cell, self.count())?;
+        self.bytes[CELL_BYTES * place] = u8::from(colour);
         Ok(())
     }
 
     fn link(&self, cell: u16, i: usize) -> Result<Option<u16>, MemoryRefusal> {
         let n = self.count();
-        if cell >= n || i >= Self::LINKS {
-            return Err(MemoryRefusal::Outside);
-        }
+        place_with_link(cell, i, n, Self::LINKS)?;
         let word = word_at(self.bytes, link_place(cell, i));
         Ok(link_of(word, n))
     }
@@ -85,12 +76,13 @@ impl<'a> CellMemory for Bytes<'a> {
         ensures exact { self.new.bytes.now ≡ bytes_linked self.old.bytes.now cell i value }
     {
         let n = self.count();
-        if cell >= n || i >= Self::LINKS || !fits(value, n) {
-            return Err(MemoryRefusal::Outside);
-        }
-        put_word(self.bytes, link_place(cell, i), word_of(value));
+        place_with_link(cell, i, n, Self::LINKS)?;
+        let word = word_of(value, n)?;
+        put_word(self.bytes, link_place(cell, i), word);
         Ok(())
     }
+
+    ghost few = { two_few };
 }
 
 // Where the high byte of a link stands.
@@ -105,13 +97,14 @@ fn word_at(bytes: &[u8], place: usize) -> u16
     requires { place + 1 < length bytes.now }
     ensures { result ≡ word_at bytes.now place }
 {
-    256 * bytes[place] as u16 + bytes[place + 1] as u16
+    u16::from_be_bytes([bytes[place], bytes[place + 1]])
 }
 
 fn put_word(bytes: &mut [u8], place: usize, word: u16)
     requires { place + 1 < length bytes.old }
     ensures { bytes.new ≡ word_put bytes.old place word }
 {
-    bytes[place] = (word / 256) as u8;
-    bytes[place + 1] = (word % 256) as u8;
+    let [high, low] = word.to_be_bytes();
+    bytes[place] = high;
+    bytes[place + 1] = low;
 }

@@ -13,16 +13,16 @@ pub use bytes::Bytes;
 
 #[derive(Clone, Copy, PartialEq, Eq, Debug)]
 pub enum Colour {
-    Blue,
-    White,
-    Grey,
-    Black,
+    Blue = 0,
+    White = 1,
+    Grey = 2,
+    Black = 3,
 }
 
 // A cell number, a link number or a link value lies outside the table: the one refusal of a memory.
 #[derive(Clone, Copy, PartialEq, Eq, Debug)]
 pub enum MemoryRefusal {
-    Outside,
+    Outside = 9,
 }
 
 pub trait CellMemory {
@@ -31,8 +31,6 @@ pub trait CellMemory {
 
     // the value of LINKS, for the clauses
     ghost links: { ℕ };
-
-    ghost few: { (1 ≤ links) × (links ≤ 8) };
 
     // the table
     ghost means: { Self → Cells };
@@ -44,6 +42,7 @@ pub trait CellMemory {
 
     ghost spare: { Self → Spare };
 
+    // LINKS; a constant of an `impl` with a lifetime is not proved where a ghost member of its name is to be its value.
     fn link_count() -> usize
         ensures { result ≡ links };
 
@@ -54,6 +53,7 @@ pub trait CellMemory {
     fn colour(&self, cell: u16) -> Result<Colour, MemoryRefusal>
         ensures { result ≡ colour_at (means self.now) cell };
 
+    // Its clauses and those of set_link stay apart: in one relation each call would name six terms, and read no plainer.
     fn set_colour(&mut self, cell: u16, colour: Colour) -> Result<(), MemoryRefusal>
         ensures answer { result ≡ colour_taken (means self.old) cell }
         ensures after { means self.new ≡ coloured (means self.old) cell colour }
@@ -66,4 +66,6 @@ pub trait CellMemory {
         ensures answer { result ≡ link_taken links (means self.old) cell i value }
         ensures after { means self.new ≡ linked links (means self.old) cell i value }
         ensures rest { spare self.new ≡ spare self.old };
+
+    ghost few: { (1 ≤ links) × (links ≤ 8) };
 }

@@ -5,6 +5,6 @@ mod changes;
 mod colours;
 mod links;
 
-pub use changes::{first_step, grey_old, warned};
-pub use colours::{grey, grey_reply, settled_colour};
+pub use changes::{first_step, grey_old, overflowed, warned};
+pub use colours::{colour_of, grey, grey_reply, settled_colour};
 pub use links::{empty_links, link_of};

@@ -1,13 +1,13 @@
 // Links that are emptied and read.
 ghost use Rattle.std.specs.Prelude.{◌≡◌};
+ghost use Rattle.cellwork.specs.Becoming.{CellsBecome};
 ghost use Rattle.rules.specs.Makings.{unlinked};
 
 use cells::CellMemory;
 
-// All links of cell x are emptied.
+// All links of cell x are emptied. A memory is asked link by link, so the loop counts them.
 pub fn empty_links<M: CellMemory>(memory: &mut M, x: u16)
-    ensures after { M.CellMemory.means memory.new ≡ unlinked (M.CellMemory.means memory.old) x }
-    ensures rest { M.CellMemory.spare memory.new ≡ M.CellMemory.spare memory.old }
+    ensures { CellsBecome M.CellMemory (λ cells. unlinked cells x) memory.old memory.new }
 {
     for i in 0..M::link_count() {
         let _ = memory.set_link(x, i, None);
@@ -18,8 +18,5 @@ pub fn empty_links<M: CellMemory>(memory: &mut M, x: u16)
 pub fn link_of<M: CellMemory>(memory: &M, x: u16, i: usize) -> Option<u16>
     ensures { result ≡ (M.CellMemory.means memory.now).link x i }
 {
-    match memory.link(x, i) {
-        Ok(v) => v,
-        Err(_) => None,
-    }
+    memory.link(x, i).unwrap_or(None)
 }

@@ -1,24 +1,24 @@
 -- The parts that a turn of the collector is made on, gathered into the state that the rules speak of; and what it is for a
 -- function on some of the parts to keep to a rule: it does so whatever the other parts are.
 use Rattle.std.specs.Borrow.{MutBor}
-use Rattle.std.specs.Prelude.{◌≡◌, ℕ, ◌+◌, Bool, true, false, cond, [], None, Option, nat_lt}
+use Rattle.std.specs.Prelude.{◌≡◌, ℕ, ◌+◌, false, cond, [], None, Option, nat_lt, Some}
 use Rattle.cells.specs.declared.CellMemory.{Ghosts as MemoryGhosts}
 use Rattle.cells.specs.declared.Colour.TheVariants.{White}
 use Rattle.cells.specs.Memory.{Cells}
 use Rattle.bags.specs.declared.Bag.{Ghosts as BagGhosts}
 use Rattle.bags.specs.Holding.{Hold}
 use Rattle.rules.specs.declared.Collector.{Collector}
-use Rattle.rules.specs.declared.Scanned.{Scanned}
-use Rattle.rules.specs.declared.Scanned.TheVariants.{Before as Unscanned, At as ScannedAt}
 use Rattle.rules.specs.State.{Task, State, Outcome}
+use Rattle.tasks.specs.Parts.{tasks_of}
+use Rattle.turns.specs.declared.parts.Control.{Control}
 use Rattle.rules.specs.Collecting.{looking, scan_from, sweep_from, waits, works}
 
-abbrev state_with : Cells → ℕ → Hold → Hold → ℕ → (ℕ → Option Task) → Collector → State
+abbrev pub state_with : Cells → ℕ → Hold → Hold → ℕ → (ℕ → Option Task) → Collector → State
 state_with x l f h d tasks k = record { cells = x; links = l; free = f; cache = h; directory = d; tasks = tasks; collector = k }
 
 module _ {M F C : Type 0} (m : MemoryGhosts M) (f : BagGhosts F) (c : BagGhosts C) where
-  abbrev pub gathered : M → F → C → ℕ → (ℕ → Option Task) → Collector → State
-  gathered memory free cache d tasks k = state_with (m.means memory) m.links (f.means free) (c.means cache) d tasks k
+  abbrev pub gathered : M → F → C → Control → State
+  gathered memory free cache control = state_with (m.means memory) m.links (f.means free) (c.means cache) control.directory (tasks_of control.tasks) control.collector
 
 -- r' is the loan that r was, and what of it no cell and no member uses is as it was
 pub record Kept {A S : Type 0} (unused : A → S) (r r' : MutBor A) : Type 0 where
@@ -36,13 +36,6 @@ alone rule k = (rule (state_with (record { size = 0; colour = λ _. White; link 
 -- Below, `told` is what a function tells of the state after it, the state alone or also an answer, and the rule makes that of the
 -- state before it.
 
--- memory, cache and collector are changed by the rule, whatever the other parts are
-module _ {M C : Type 0} (m : MemoryGhosts M) (c : BagGhosts C) where
-  pub record Marks {A : Type 0} (told rule : State → A) (memory memory' : MutBor M) (cache cache' : MutBor C) (k k' : MutBor Collector) : Type 0 where
-    pub state : (f : Hold) (d : ℕ) (tasks : ℕ → Option Task) → told (state_with (m.means memory'.now) m.links f (c.means cache'.now) d tasks k'.now) ≡ rule (state_with (m.means memory.now) m.links f (c.means cache.now) d tasks k.now)
-    pub spare : m.spare memory'.now ≡ m.spare memory.now
-    pub cache_spare : c.spare cache'.now ≡ c.spare cache.now
-
 -- memory, free list and collector are changed by the rule, whatever the other parts are
 module _ {M F : Type 0} (m : MemoryGhosts M) (f : BagGhosts F) where
   pub record Sweeps {A : Type 0} (told rule : State → A) (memory memory' : MutBor M) (free free' : MutBor F) (k k' : MutBor Collector) : Type 0 where
@@ -51,13 +44,9 @@ module _ {M F : Type 0} (m : MemoryGhosts M) (f : BagGhosts F) where
     pub free_spare : f.spare free'.now ≡ f.spare free.now
 
 -- Scan, where there is nothing to trace
-abbrev pub scan_on : State → Scanned → Outcome
-scan_on s Unscanned = waits s
-scan_on s (ScannedAt k) =
+abbrev pub scan_on : State → Option ℕ → Outcome
+scan_on s None = waits s
+scan_on s (Some k) =
     cond (nat_lt k s.cells.size)
     (cond s.collector.looked (works (scan_from s s.collector.dirty (k + 1))) (works (looking s k)))
     (cond s.collector.dirty (works (scan_from s false 0)) (works (sweep_from s)))
-
-abbrev pub is_unscanned : Scanned → Bool
-is_unscanned Unscanned = true
-is_unscanned (ScannedAt k) = false

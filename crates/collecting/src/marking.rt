@@ -1,90 +1,77 @@
-// Blackening and tracing. A place outside the table reads as White and has no links.
+// Blackening and tracing.
 ghost use Rattle.std.specs.Prelude.{◌≡◌, ◌+◌, ◌<◌, true, Some};
 ghost use Rattle.bags.specs.Holding.{has_member, taken_from};
-ghost use Rattle.rules.specs.Collecting.{blacken, next_hand, overflowed, tracing, waits, with_hand, with_next};
-ghost use Rattle.collecting.specs.Gathering.{alone, Marks};
+ghost use Rattle.rules.specs.Collecting.{next_hand, with_hand};
+ghost use Rattle.collecting.specs.Gathering.{alone};
 
 use bags::Bag;
 use cells::{CellMemory, Colour};
-use rules::{Collector, Hand, Scanned};
+use cellwork::{colour_of, link_of, overflowed};
+use rules::{Collector, Hand};
 
-pub(crate) fn colour_of<M: CellMemory>(memory: &M, cell: u16) -> Colour
-    ensures { result ≡ (M.CellMemory.means memory.now).colour cell }
-{
-    match memory.colour(cell) {
-        Ok(colour) => colour,
-        Err(_) => Colour::White,
-    }
+// What a turn of Mark or Scan touches.
+#[derive(Drop)]
+pub(crate) struct Marker<'a, 'b, 'c, M: CellMemory, C: Bag> {
+    pub(crate) memory: &'a mut M,
+    pub(crate) cache: &'b mut C,
+    pub(crate) collector: &'c mut Collector,
 }
 
-fn link_of<M: CellMemory>(memory: &M, cell: u16, i: usize) -> Option<u16>
-    ensures { result ≡ (M.CellMemory.means memory.now).link cell i }
-{
-    match memory.link(cell, i) {
-        Ok(value) => value,
-        Err(_) => None,
-    }
-}
+impl<'a, 'b, 'c, M: CellMemory, C: Bag> Marker<'a, 'b, 'c, M, C> {
+    ghost use Rattle.rules.specs.Collecting.{blacken, tracing, waits, with_next};
+    ghost use Rattle.collecting.specs.Marking.{Lent, Marks};
 
-// Dirty after v had no place in the cache: yes, if the scan is past it and will not find it.
-fn overflowed(v: u16, scanned: Scanned, dirty: bool) -> bool
-    ensures { result ≡ overflowed v scanned dirty }
-{
-    match scanned {
-        Scanned::Before => dirty,
-        Scanned::At(k) => v < k || dirty,
-    }
-}
-
-// Marks v: into the cache as Black, or Grey where the cache is full.
-pub(crate) fn blacken<M: CellMemory, C: Bag>(
-    memory: &mut M,
-    cache: &mut C,
-    collector: &mut Collector,
-    v: u16,
-)
-    ensures { Marks M.CellMemory C.Bag (λ s. s) (λ s. blacken s v) memory.entry memory.exit cache.entry cache.exit collector.entry collector.exit }
-{
-    if colour_of(memory, v) == Colour::Black {
-        return;
-    }
-    match cache.put(v) {
-        Ok(()) => {
-            let _ = memory.set_colour(v, Colour::Black);
-        }
-        Err(_) => {
-            let _ = memory.set_colour(v, Colour::Grey);
-            collector.dirty = overflowed(v, collector.scanned, collector.dirty);
+    pub(crate) fn new(
+        memory: &'a mut M,
+        cache: &'b mut C,
+        collector: &'c mut Collector,
+    ) -> Marker<'a, 'b, 'c, M, C>
+        ensures { Lent memory.entry cache.entry collector.entry result }
+    {
+        Marker {
+            memory,
+            cache,
+            collector,
         }
     }
-}
 
-// The hand at the next of so many links, or empty after the last.
-fn next_hand(links: usize, hand: Hand) -> Option<Hand>
-    ensures { result ≡ next_hand links hand.cell hand.link }
-{
-    match hand.link.checked_add(1) {
-        Some(link) if link < links => Some(Hand {
-            cell: hand.cell,
-            link,
-        }),
-        _ => None,
+    // Marks v: into the cache as Black, or Grey where the cache is full.
+    pub(crate) fn blacken(&mut self, v: u16)
+        ensures { Marks M.CellMemory C.Bag (λ s. s) (λ s. blacken s v) self.old self.new }
+    {
+        if colour_of(self.memory, v) == Colour::Black {
+            return;
+        }
+        match self.cache.put(v) {
+            Ok(()) => {
+                let _ = self.memory.set_colour(v, Colour::Black);
+            }
+            Err(_) => {
+                let _ = self.memory.set_colour(v, Colour::Grey);
+                self.collector.dirty = overflowed(v, self.collector.scanned, self.collector.dirty);
+            }
+        }
     }
-}
 
-// Follows the next link of the cell in the hand.
-pub(crate) fn follow<M: CellMemory, C: Bag>(
-    memory: &mut M,
-    cache: &mut C,
-    collector: &mut Collector,
-    hand: Hand,
-)
-    ensures { Marks M.CellMemory C.Bag (λ s. s) (λ s. (tracing s (Some hand) (waits s)).after) memory.entry memory.exit cache.entry cache.exit collector.entry collector.exit }
-{
-    if let Some(v) = link_of(memory, hand.cell, hand.link) {
-        blacken(memory, cache, collector, v);
+    // Follows the next link of the cell in the hand.
+    pub(crate) fn follow(&mut self, hand: Hand)
+        ensures { Marks M.CellMemory C.Bag (λ s. s) (λ s. (tracing s (Some hand) (waits s)).after) self.old self.new }
+    {
+        if let Some(v) = link_of(self.memory, hand.cell, hand.link) {
+            self.blacken(v);
+        }
+        self.collector.hand = next_hand(M::link_count(), hand);
     }
-    collector.hand = next_hand(M::link_count(), hand);
+
+    // Blackens the next directory cell.
+    pub(crate) fn next_cell(&mut self)
+        requires { self.old.collector.now.next < 65535 }
+        ensures { Marks M.CellMemory C.Bag (λ s. s) (λ s. with_next (blacken s s.collector.next) (s.collector.next + 1)) self.old self.new }
+    {
+        let cell = self.collector.next;
+        self.blacken(cell);
+        self.collector.next = cell + 1;
+    }
 }
 
 // Takes a cell from the cache, which has one, into the empty hand.
@@ -99,16 +86,12 @@ pub(crate) fn take<C: Bag>(cache: &mut C, collector: &mut Collector)
     }
 }
 
-// Blackens the next directory cell.
-pub(crate) fn next_cell<M: CellMemory, C: Bag>(
-    memory: &mut M,
-    cache: &mut C,
-    collector: &mut Collector,
-)
-    requires { collector.old.next < 65535 }
-    ensures { Marks M.CellMemory C.Bag (λ s. s) (λ s. with_next (blacken s s.collector.next) (s.collector.next + 1)) memory.entry memory.exit cache.entry cache.exit collector.entry collector.exit }
+// The hand at the next of so many links, or empty after the last.
+fn next_hand(links: usize, hand: Hand) -> Option<Hand>
+    ensures { result ≡ next_hand links hand.cell hand.link }
 {
-    let cell = collector.next;
-    blacken(memory, cache, collector, cell);
-    collector.next = cell + 1;
+    hand.link
+        .checked_add(1)
+        .filter(|link| *link < links)
+        .map(|link| Hand { link, ..hand })
 }

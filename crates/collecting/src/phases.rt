@@ -5,7 +5,7 @@ ghost use Rattle.rules.specs.Greying.{same_status};
 ghost use Rattle.tasks.specs.Parts.{tasks_of};
 ghost use Rattle.collecting.specs.Gathering.{alone};
 
-use rules::{Collector, Scanned, Stage, Status, Swept};
+use rules::{Collector, Stage, Status, Swept};
 use tasks::Tasks;
 
 // Rest: asks for Sync1.
@@ -64,7 +64,7 @@ pub(crate) fn scan_from(collector: &mut Collector, dirty: bool, k: u16)
     ensures { collector.new ≡ alone (λ s. scan_from s dirty k) collector.old }
 {
     collector.stage = Stage::Scan;
-    collector.scanned = Scanned::At(k);
+    collector.scanned = Some(k);
     collector.looked = false;
     collector.dirty = dirty;
 }
@@ -74,7 +74,7 @@ pub(crate) fn sweep_from(collector: &mut Collector)
     ensures { collector.new ≡ alone sweep_from collector.old }
 {
     collector.stage = Stage::Sweep;
-    collector.scanned = Scanned::Before;
+    collector.scanned = None;
     collector.swept = Swept::At(0);
     collector.looked = false;
 }

@@ -2,13 +2,14 @@
 ghost use Rattle.std.specs.Prelude.{◌≡◌};
 ghost use Rattle.rules.specs.Collecting.{sweeping, swept as swept_cell};
 ghost use Rattle.rules.specs.State.{accepted};
+ghost use Rattle.rules.specs.TurnNumbers.{turn_number};
 ghost use Rattle.collecting.specs.Gathering.{Sweeps};
 
-use super::marking::colour_of;
 use super::phases::sweep_to;
 use bags::Bag;
 use cells::{CellMemory, Colour};
-use rules::{Collector, Stage, Swept};
+use cellwork::colour_of;
+use rules::{Collector, Stage, Swept, Turn};
 
 // Looks at cell k, and frees it if it is White.
 fn look<M: CellMemory, F: Bag>(memory: &mut M, free: &mut F, collector: &mut Collector, k: u16)
@@ -32,24 +33,24 @@ pub(crate) fn sweep<M: CellMemory, F: Bag>(
     memory: &mut M,
     free: &mut F,
     collector: &mut Collector,
-) -> u16
-    ensures { Sweeps M.CellMemory F.Bag (accepted result) (λ s. sweeping s s.collector.swept) memory.entry memory.exit free.entry free.exit collector.entry collector.exit }
+) -> Turn
+    ensures { Sweeps M.CellMemory F.Bag (accepted (turn_number result)) (λ s. sweeping s s.collector.swept) memory.entry memory.exit free.entry free.exit collector.entry collector.exit }
 {
     let Swept::At(k) = collector.swept else {
-        return 0;
+        return Turn::Waited;
     };
     if !collector.looked {
         look(memory, free, collector, k);
-        return 1;
+        return Turn::Worked;
     }
     match k.checked_add(1) {
         Some(next) if next < memory.count() => {
             sweep_to(collector, Swept::At(next), Stage::Sweep);
-            1
+            Turn::Worked
         }
         _ => {
             sweep_to(collector, Swept::Past, Stage::Rest);
-            2
+            Turn::Returned
         }
     }
 }

@@ -16,6 +16,8 @@ use Rattle.script.specs.declared.Request.{Request}
 use Rattle.script.specs.declared.words.Verb.{Verb}
 use Rattle.script.specs.declared.words.Verb.TheVariants.{Enter, Leave, Point, Move, Clear, Load, Reserve, Back, Colour as ColourOf}
 use Rattle.script.specs.Lines.{refusal_number as line_refusal_number}
+use Rattle.console.specs.declared.refused.Refused.{Refused}
+use Rattle.console.specs.Refusals.{number_of}
 use Rattle.symbols.specs.declared.parts.Symbols.{Symbols}
 use Rattle.symbols.specs.Views.{state_of, Same}
 
@@ -50,6 +52,11 @@ called ColourOf a b c d s = record { answer = coloured (colour_at s.cells a); af
 abbrev pub reply_to : Result Request LineRefusal → State → Reply
 reply_to (Ok q) s = called q.verb (slice_index q.numbers 0) (slice_index q.numbers 1) (slice_index q.numbers 2) (slice_index q.numbers 3) s
 reply_to (Err e) s = record { answer = Err (line_refusal_number e); after = s }
+
+-- an answer with its refusal as a number
+abbrev pub with_number : Result ℕ Refused → Result ℕ ℕ
+with_number (Ok k) = Ok k
+with_number (Err e) = Err (number_of e)
 
 module _ {M F C : Type 0} (m : MemoryGhosts M) (f : BagGhosts F) (c : BagGhosts C) where
   -- a line that took h to h' was answered r

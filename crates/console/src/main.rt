@@ -9,6 +9,7 @@ use std::io;
 use std::io::Read;
 use symbols::Symbols;
 
+mod refused;
 mod reply;
 
 // The longest script that is read.
@@ -30,11 +31,10 @@ fn main(rt: HostRuntime) -> io::Result<()> {
     let mut ring = Ring::new();
     let mut symbols = Symbols::over(&mut board, &mut pile, &mut ring);
     let _ = symbols.set_up(1);
-    let mut reader = Reader::new(text.as_slice());
-    while !reader.at_end() {
-        match answer(&mut symbols, reader.request()) {
+    for line in Reader::new(text.as_slice()) {
+        match answer(&mut symbols, line) {
             Ok(number) => println!(rt; "ok {number}")?,
-            Err(number) => println!(rt; "no {number}")?,
+            Err(refusal) => println!(rt; "no {refusal}")?,
         }
     }
     Ok(())

@@ -6,8 +6,6 @@ use Rattle.cells.specs.declared.Colour.{Colour}
 use Rattle.cells.specs.declared.Colour.TheVariants.{Blue, White, Grey, Black}
 use Rattle.cells.specs.Memory.{at, coloured, recoloured}
 use Rattle.bags.specs.Holding.{Hold, Fair, one, copies, has_room, holding, put_into}
-use Rattle.rules.specs.declared.Scanned.{Scanned}
-use Rattle.rules.specs.declared.Scanned.TheVariants.{Before as Unscanned, At as ScannedAt}
 use Rattle.rules.specs.State.{State, with_cells, with_cache, with_collector}
 use Rattle.rules.specs.Greying.{is_black}
 use Rattle.rules.specs.Changes.{with_dirty}
@@ -141,11 +139,11 @@ blackened_black {s} (overflows {v} d r) fair c b n = ⊎_elim
     (cases_eq c v)
 
 -- dirty stays yes, and becomes yes for a cell behind the scan
-pub overflowed_dirty : (v : ℕ) (at_scan : Scanned) (d : Bool) → d ≡ true → overflowed v at_scan d ≡ true
-overflowed_dirty v Unscanned d e = e
-overflowed_dirty v (ScannedAt k) d e = grind (arith, nat_tests)
+pub overflowed_dirty : (v : ℕ) (at_scan : Option ℕ) (d : Bool) → d ≡ true → overflowed v at_scan d ≡ true
+overflowed_dirty v None d e = e
+overflowed_dirty v (Some k) d e = grind (arith, nat_tests)
 
-pub overflowed_behind : (v k : ℕ) (d : Bool) → v < k → overflowed v (ScannedAt k) d ≡ true
+pub overflowed_behind : (v k : ℕ) (d : Bool) → v < k → overflowed v (Some k) d ≡ true
 overflowed_behind v k d l = grind (arith, nat_tests)
 
 pub blackened_dirty : {s : State} {o : Option ℕ} {colour : ℕ → Colour} {cache : Hold} {unclean : Bool} → Blackened s o colour cache unclean

@@ -6,8 +6,6 @@ use Rattle.cells.specs.declared.Colour.{Colour}
 use Rattle.cells.specs.declared.Colour.TheVariants.{Grey, Black}
 use Rattle.bags.specs.Holding.{Hold, Fair, copies, has_room}
 use Rattle.rules.specs.declared.Stage.TheVariants.{Mark, Scan}
-use Rattle.rules.specs.declared.Scanned.{Scanned}
-use Rattle.rules.specs.declared.Scanned.TheVariants.{At as ScannedAt}
 use Rattle.rules.specs.declared.Hand.{Hand}
 use Rattle.rules.specs.State.{State}
 use Rattle.rules.specs.Reach.{start, along}
@@ -20,7 +18,7 @@ use Rattle.rules.proofs.Marking.{turned, WorksIn, shaded_on, kept_on}
 use Rattle.rules.proofs.GoingOn.{going, goes_on_kept}
 use Rattle.rules.proofs.Blackened.{Blackened, blackened_shaded, blackened_is_shaded, blackened_found, blackened_caches, blackened_cached, blackened_manner, blackened_black, blackened_dirty, overflowed_behind}
 
-pub scanned_same : {a b : ℕ} → ◌≡◌ {A = Scanned} (ScannedAt a) (ScannedAt b) → a ≡ b
+pub scanned_same : {a b : ℕ} → ◌≡◌ {A = Option ℕ} (Some a) (Some b) → a ≡ b
 scanned_same e = cc
 
 is_it : (o : Option ℕ) (c : ℕ) → (o ≡ Some c) ⊎ (¬ (o ≡ Some c))
@@ -47,9 +45,9 @@ module _ (s : State) (I : Invariant s) (o : Option ℕ) (colour' : ℕ → Colou
     pub hand_kept : (h : Hand) → hand' ≡ Some h → Kept s h.cell × (h.link < s.links)
     pub next_left : s.collector.stage ≡ Mark → (c : ℕ) → s.collector.next ≤ c → c < s.directory → (o ≡ Some c) ⊎ (next' ≤ c)
     pub next_passed : s.collector.stage ≡ Mark → (c : ℕ) → c < next' → c < s.directory → (c < s.collector.next) ⊎ (o ≡ Some c)
-    pub looked_left : s.collector.stage ≡ Scan → (c : ℕ) → s.collector.scanned ≡ ScannedAt c → s.cells.colour c ≡ Grey → s.collector.looked ≡ false → (o ≡ Some c) ⊎ (looked' ≡ false)
-    pub looks : s.collector.stage ≡ Scan → Busy s' → (k : ℕ) → s.collector.scanned ≡ ScannedAt k → (k < s.cells.size) × (looked' ≡ true) × Kept s' k
-    pub traces_on : s.collector.stage ≡ Scan → (c : ℕ) → s.collector.scanned ≡ ScannedAt c → Busy s' → Busy s ⊎ (o ≡ Some c)
+    pub looked_left : s.collector.stage ≡ Scan → (c : ℕ) → s.collector.scanned ≡ Some c → s.cells.colour c ≡ Grey → s.collector.looked ≡ false → (o ≡ Some c) ⊎ (looked' ≡ false)
+    pub looks : s.collector.stage ≡ Scan → Busy s' → (k : ℕ) → s.collector.scanned ≡ Some k → (k < s.cells.size) × (looked' ≡ true) × Kept s' k
+    pub traces_on : s.collector.stage ≡ Scan → (c : ℕ) → s.collector.scanned ≡ Some c → Busy s' → Busy s ⊎ (o ≡ Some c)
 
   module _ (g : MovesOn) where
     fair : Fair s.cache.manner
@@ -78,7 +76,7 @@ module _ (s : State) (I : Invariant s) (o : Option ℕ) (colour' : ℕ → Colou
         (cases_lt (length s.cache.members) s.cache.room))
 
     -- the blackened cell is still to be traced from, unless it was Black, or is the looked-at cell at scanned
-    found : (c : ℕ) → o ≡ Some c → s.cells.colour c ≢ Black → ¬ ((s.collector.stage ≡ Scan) × (s.collector.scanned ≡ ScannedAt c) × Busy s) → Pending s' c
+    found : (c : ℕ) → o ≡ Some c → s.cells.colour c ≢ Black → ¬ ((s.collector.stage ≡ Scan) × (s.collector.scanned ≡ Some c) × Busy s) → Pending s' c
     found c e n apart = ⊎_elim
         (λ l. cached l)
         (λ (a : (colour' c ≡ Grey) × (has_room s.cache ≡ false) × (dirty' ≡ overflowed c s.collector.scanned s.collector.dirty)). ⊎_elim
@@ -90,7 +88,7 @@ module _ (s : State) (I : Invariant s) (o : Option ℕ) (colour' : ℕ → Colou
         ⊎_elim
         (λ (l : c < k). dirty m (a.2 ∙ ap (λ p. overflowed c p s.collector.dirty) at-k ∙ overflowed_behind c k s.collector.dirty l) (blackened_kept_now c e) a.0)
         (λ (l : k ≤ c). ⊎_elim
-        (λ (q : k ≡ c). absurd (apart (m, at-k ∙ ap ScannedAt q, full_busy a.1)))
+        (λ (q : k ≡ c). absurd (apart (m, at-k ∙ ap Some q, full_busy a.1)))
         (λ (q : k ≡ c → ⊥). ahead m at-k (omega arith) (blackened_kept_now c e) a.0)
         (cases_eq k c))
         (cases_lt c k))

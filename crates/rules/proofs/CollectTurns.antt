@@ -1,13 +1,11 @@
 -- Every turn of the collector keeps the invariant.
-use Rattle.std.proofs.Common.{◌≡◌, ◌+◌, not, ◌&&◌, eqb, ltb, refl, inl, inr}
+use Rattle.std.proofs.Common.{◌≡◌, ◌+◌, not, ◌&&◌, eqb, ltb, refl, inl, inr, ℕ, Some, None, Option}
 use Rattle.std.proofs.lemmas.Bool.{cond_both, and_parts, ltb-true, ltb-false}
 use Rattle.rules.specs.declared.Status.TheVariants.{Async}
 use Rattle.rules.specs.declared.Stage.{Stage}
 use Rattle.rules.specs.declared.Stage.TheVariants.{Rest, Clear, Mark, Scan, Sweep}
 use Rattle.rules.specs.declared.Swept.{Swept}
 use Rattle.rules.specs.declared.Swept.TheVariants.{Before, At, Past}
-use Rattle.rules.specs.declared.Scanned.{Scanned}
-use Rattle.rules.specs.declared.Scanned.TheVariants.{Before as Unscanned, At as ScannedAt}
 use Rattle.rules.specs.State.{State, Outcome}
 use Rattle.rules.specs.Greying.{same_status}
 use Rattle.rules.specs.Collecting.{all_agree, marking, scanning, sweeping, by_stage, collect}
@@ -34,9 +32,9 @@ marking_kept s I e = cond_both (not (same_status s.collector.phase s.collector.s
     (λ q. scan_begun_kept s I free-hand empty e (same_status_lem s.collector.phase Async q) (ltb-false s.collector.next s.directory l))
     (λ q. I))))
 
-pub scanning_kept : (s : State) → Invariant s → s.collector.stage ≡ Scan → (place : Scanned) → s.collector.scanned ≡ place → KeptBy (scanning s place)
-scanning_kept s I e Unscanned p = I
-scanning_kept s I e (ScannedAt k) p = tracing_kept s I (inr e) _ (λ free-hand empty.
+pub scanning_kept : (s : State) → Invariant s → s.collector.stage ≡ Scan → (place : Option ℕ) → s.collector.scanned ≡ place → KeptBy (scanning s place)
+scanning_kept s I e None p = I
+scanning_kept s I e (Some k) p = tracing_kept s I (inr e) _ (λ free-hand empty.
     cond_both (ltb k s.cells.size) _ _ KeptBy
     (λ l. cond_both s.collector.looked _ _ KeptBy
     (λ q. scan_next_kept s I free-hand empty e k p (ltb-true k s.cells.size l) q)

@@ -9,8 +9,6 @@ use Rattle.rules.specs.declared.Stage.{Stage}
 use Rattle.rules.specs.declared.Stage.TheVariants.{Rest, Clear, Mark, Scan, Sweep}
 use Rattle.rules.specs.declared.Swept.{Swept}
 use Rattle.rules.specs.declared.Swept.TheVariants.{Before, At, Past}
-use Rattle.rules.specs.declared.Scanned.{Scanned}
-use Rattle.rules.specs.declared.Scanned.TheVariants.{Before as Unscanned, At as ScannedAt}
 use Rattle.rules.specs.declared.Hand.{Hand}
 use Rattle.rules.specs.declared.Collector.{Collector}
 use Rattle.rules.specs.declared.Refusal.{Refusal}
@@ -126,9 +124,9 @@ module _ (s : State) where
       (λ _. idles 1 (omega arith) _ (λ e. let z : ◌≡◌ {A = ℕ} 0 1 = cc in omega arith))
       (λ _. idles 0 (omega arith) _ off))))
 
-  scanned : s.collector.stage ≡ Scan → (p : Scanned) → Collected s (scanning s p)
-  scanned g Unscanned = idles 0 (omega arith) _ (λ e. let z : ◌≡◌ {A = ℕ} 0 1 = cc in omega arith)
-  scanned g (ScannedAt k) =
+  scanned : s.collector.stage ≡ Scan → (p : Option ℕ) → Collected s (scanning s p)
+  scanned g None = idles 0 (omega arith) _ (λ e. let z : ◌≡◌ {A = ℕ} 0 1 = cc in omega arith)
+  scanned g (Some k) =
       let off : s.collector.stage ≢ Sweep = λ e. let z : ◌≡◌ {A = ℕ} 0 1 = cc in omega arith in
       traces off _ (cond_both (ltb k s.cells.size) _ _ (Collected s)
       (λ _. cond_both s.collector.looked _ _ (Collected s)

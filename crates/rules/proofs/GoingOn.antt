@@ -6,7 +6,6 @@ use Rattle.cells.specs.declared.Colour.{Colour}
 use Rattle.cells.specs.declared.Colour.TheVariants.{Black}
 use Rattle.bags.specs.Holding.{Hold, one, copies, has_member, holding, taken_from}
 use Rattle.rules.specs.declared.Stage.TheVariants.{Mark, Scan}
-use Rattle.rules.specs.declared.Scanned.TheVariants.{At as ScannedAt}
 use Rattle.rules.specs.declared.Hand.{Hand}
 use Rattle.rules.specs.declared.Collector.{Collector}
 use Rattle.rules.specs.State.{State, with_cache}
@@ -31,7 +30,7 @@ module _ (s : State) (I : Invariant s) (colour' : ℕ → Colour) (cache' : Hold
     pub marks : SecondHalf s → (c : ℕ) → (colour' c ≡ s.cells.colour c) ⊎ Marked s I.Cut c
     pub manner : cache'.manner ≡ s.cache.manner
     pub room : cache'.room ≡ s.cache.room
-    pub looks : s.collector.stage ≡ Scan → Busy s' → (k : ℕ) → s.collector.scanned ≡ ScannedAt k → (k < s.cells.size) × (looked' ≡ true) × Kept s' k
+    pub looks : s.collector.stage ≡ Scan → Busy s' → (k : ℕ) → s.collector.scanned ≡ Some k → (k < s.cells.size) × (looked' ≡ true) × Kept s' k
     pub cached_kept : (c : ℕ) → 0 < copies cache'.members c → Kept s' c
     pub hand_kept : (h : Hand) → hand' ≡ Some h → Kept s' h.cell × (h.link < s.links)
     pub shaded_directory : s.collector.stage ≡ Mark → (c : ℕ) → c < next' → c < s.directory → Shaded s' c

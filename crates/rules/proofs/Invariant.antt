@@ -5,7 +5,6 @@ use Rattle.cells.specs.Memory.{Sound as SoundMemory}
 use Rattle.bags.specs.Holding.{copies, Fair}
 use Rattle.rules.specs.declared.Status.TheVariants.{Async, Sync2}
 use Rattle.rules.specs.declared.Stage.TheVariants.{Rest, Clear, Mark, Scan, Sweep}
-use Rattle.rules.specs.declared.Scanned.TheVariants.{At as ScannedAt}
 use Rattle.rules.specs.declared.Step.{Step}
 use Rattle.rules.specs.declared.Step.TheVariants.{Grey as GreyStep, Warn, Store}
 use Rattle.rules.specs.declared.Work.{Work}
@@ -42,7 +41,7 @@ pub record Control (s : State) : Type 0 where
   pub places : Places s.collector.stage s.collector.status s.collector.phase s.collector.swept s.collector.scanned s.cells.size
   pub nothing_traced : s.collector.stage ≢ Mark → s.collector.stage ≢ Scan → ¬ (Busy s)
   pub statuses : (m : ℕ) (t : Task) → s.tasks m ≡ Some t → (t.status ≡ s.collector.status) ⊎ (t.status ≡ s.collector.phase)
-  pub scan_looked : s.collector.stage ≡ Scan → Busy s → (k : ℕ) → s.collector.scanned ≡ ScannedAt k → (k < s.cells.size) × (s.collector.looked ≡ true) × Kept s k
+  pub scan_looked : s.collector.stage ≡ Scan → Busy s → (k : ℕ) → s.collector.scanned ≡ Some k → (k < s.cells.size) × (s.collector.looked ≡ true) × Kept s k
 
 -- unfinished changes and makings
 pub record Works (s : State) : Type 0 where

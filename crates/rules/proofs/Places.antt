@@ -1,5 +1,5 @@
 -- What stage, statuses, sweep and scan of the collector can be together, over a table of n cells.
-use Rattle.std.proofs.Common.{◌≡◌, ℕ, ◌<◌, ◌≤◌, ◌≢◌, ◌⊎◌, sym, refl, subst₂, arith}
+use Rattle.std.proofs.Common.{◌≡◌, ℕ, ◌<◌, ◌≤◌, ◌≢◌, ◌⊎◌, sym, refl, subst₂, arith, Some, None, Option}
 use mathlib.Core.Path.{subst₃}
 use Rattle.rules.specs.declared.Status.{Status}
 use Rattle.rules.specs.declared.Status.TheVariants.{Async, Sync1, Sync2}
@@ -7,22 +7,20 @@ use Rattle.rules.specs.declared.Stage.{Stage}
 use Rattle.rules.specs.declared.Stage.TheVariants.{Rest, Clear, Mark, Scan, Sweep}
 use Rattle.rules.specs.declared.Swept.{Swept}
 use Rattle.rules.specs.declared.Swept.TheVariants.{Before, At, Past}
-use Rattle.rules.specs.declared.Scanned.{Scanned}
-use Rattle.rules.specs.declared.Scanned.TheVariants.{Before as Unscanned, At as ScannedAt}
 
-pub record Places (stage : Stage) (asked phase : Status) (swept : Swept) (scanned : Scanned) (n : ℕ) : Type 0 where
+pub record Places (stage : Stage) (asked phase : Status) (swept : Swept) (scanned : Option ℕ) (n : ℕ) : Type 0 where
   pub rest : stage ≡ Rest → (asked ≡ Async) × (phase ≡ Async) × (swept ≡ Past)
   pub clear : stage ≡ Clear → (asked ≡ Sync1) × (phase ≡ Async) × (swept ≡ Past)
   pub mark : stage ≡ Mark → swept ≡ Before
   pub mark_statuses : stage ≡ Mark → ((asked ≡ Sync2) × (phase ≡ Sync1)) ⊎ ((asked ≡ Async) × (phase ≢ Sync1))
   pub scan : stage ≡ Scan → (asked ≡ Async) × (phase ≡ Async) × (swept ≡ Before)
-  pub scan_place : stage ≡ Scan → (k : ℕ) × ((scanned ≡ ScannedAt k) × (k ≤ n))
+  pub scan_place : stage ≡ Scan → (k : ℕ) × ((scanned ≡ Some k) × (k ≤ n))
   pub sweep : stage ≡ Sweep → (asked ≡ Async) × (phase ≡ Async)
   pub sweep_place : stage ≡ Sweep → (k : ℕ) × ((swept ≡ At k) × (k < n))
-  pub unscanned : stage ≢ Scan → scanned ≡ Unscanned
+  pub unscanned : stage ≢ Scan → scanned ≡ None
 
 -- one of the five stages, with what belongs to it
-pub in_rest : {n : ℕ} → Places Rest Async Async Past Unscanned n
+pub in_rest : {n : ℕ} → Places Rest Async Async Past None n
 in_rest = record {
   rest = λ e. (refl, refl, refl);
   clear = λ e. let z : ◌≡◌ {A = ℕ} 0 1 = cc in absurd (omega arith);
@@ -35,7 +33,7 @@ in_rest = record {
   unscanned = λ n. refl;
 }
 
-pub in_clear : {n : ℕ} → Places Clear Sync1 Async Past Unscanned n
+pub in_clear : {n : ℕ} → Places Clear Sync1 Async Past None n
 in_clear = record {
   rest = λ e. let z : ◌≡◌ {A = ℕ} 0 1 = cc in absurd (omega arith);
   clear = λ e. (refl, refl, refl);
@@ -48,7 +46,7 @@ in_clear = record {
   unscanned = λ n. refl;
 }
 
-pub in_mark : {asked phase : Status} {n : ℕ} → ((asked ≡ Sync2) × (phase ≡ Sync1)) ⊎ ((asked ≡ Async) × (phase ≢ Sync1)) → Places Mark asked phase Before Unscanned n
+pub in_mark : {asked phase : Status} {n : ℕ} → ((asked ≡ Sync2) × (phase ≡ Sync1)) ⊎ ((asked ≡ Async) × (phase ≢ Sync1)) → Places Mark asked phase Before None n
 in_mark statuses = record {
   rest = λ e. let z : ◌≡◌ {A = ℕ} 0 1 = cc in absurd (omega arith);
   clear = λ e. let z : ◌≡◌ {A = ℕ} 0 1 = cc in absurd (omega arith);
@@ -61,7 +59,7 @@ in_mark statuses = record {
   unscanned = λ n. refl;
 }
 
-pub in_scan : {k n : ℕ} → k ≤ n → Places Scan Async Async Before (ScannedAt k) n
+pub in_scan : {k n : ℕ} → k ≤ n → Places Scan Async Async Before (Some k) n
 in_scan {k} inside = record {
   rest = λ e. let z : ◌≡◌ {A = ℕ} 0 1 = cc in absurd (omega arith);
   clear = λ e. let z : ◌≡◌ {A = ℕ} 0 1 = cc in absurd (omega arith);
@@ -74,7 +72,7 @@ in_scan {k} inside = record {
   unscanned = λ n. absurd (n refl);
 }
 
-pub in_sweep : {k n : ℕ} → k < n → Places Sweep Async Async (At k) Unscanned n
+pub in_sweep : {k n : ℕ} → k < n → Places Sweep Async Async (At k) None n
 in_sweep {k} inside = record {
   rest = λ e. let z : ◌≡◌ {A = ℕ} 0 1 = cc in absurd (omega arith);
   clear = λ e. let z : ◌≡◌ {A = ℕ} 0 1 = cc in absurd (omega arith);
@@ -88,7 +86,7 @@ in_sweep {k} inside = record {
 }
 
 -- the same places, told by equal words
-pub placed : {stage stage' : Stage} {asked asked' phase phase' : Status} {swept swept' : Swept} {scanned scanned' : Scanned} {n : ℕ}
+pub placed : {stage stage' : Stage} {asked asked' phase phase' : Status} {swept swept' : Swept} {scanned scanned' : Option ℕ} {n : ℕ}
     → stage ≡ stage' → asked ≡ asked' → phase ≡ phase' → swept ≡ swept' → scanned ≡ scanned' → Places stage' asked' phase' swept' scanned' n → Places stage asked phase swept scanned n
 placed {stage' = stage'} {asked' = asked'} {phase' = phase'} {swept = swept} {scanned = scanned} {n = n} a b c d e p =
     subst₃ (λ g q f. Places g q f swept scanned n) (sym a) (sym b) (sym c) (subst₂ (λ w k. Places stage' asked' phase' w k n) (sym d) (sym e) p)

@@ -8,7 +8,6 @@ use Rattle.rules.specs.declared.Status.TheVariants.{Async, Sync1, Sync2}
 use Rattle.rules.specs.declared.Stage.TheVariants.{Mark, Scan}
 use Rattle.rules.specs.declared.Swept.{Swept}
 use Rattle.rules.specs.declared.Swept.TheVariants.{Before, At}
-use Rattle.rules.specs.declared.Scanned.TheVariants.{At as ScannedAt}
 use Rattle.rules.specs.State.{State, Task}
 use Rattle.rules.specs.Reach.{start, along}
 use Rattle.rules.specs.Collecting.{scan_from, sweep_from}
@@ -71,7 +70,7 @@ module _ (s : State) (I : Invariant s) (free-hand : s.collector.hand ≡ None) (
   -- each Grey cell is still to be looked at where the scan begins
   grey_ahead : (unclean : Bool) (c : ℕ) → Kept s c → s.cells.colour c ≡ Grey → Pending (scan_from s unclean 0) c
   grey_ahead unclean c k g = ⊎_elim
-      (λ (e : 0 ≡ c). at_scan refl (ap ScannedAt e) refl k g)
+      (λ (e : 0 ≡ c). at_scan refl (ap Some e) refl k g)
       (λ (n : 0 ≡ c → ⊥). ahead refl refl (omega arith) k g)
       (cases_eq 0 c)
 
@@ -94,7 +93,7 @@ module _ (s : State) (I : Invariant s) (free-hand : s.collector.hand ≡ None) (
       pending_on c (dirty q p k g) = grey_ahead false c k g
 
   -- at cell here of the scan
-  module _ (e : s.collector.stage ≡ Scan) (here : ℕ) (place : s.collector.scanned ≡ ScannedAt here) where
+  module _ (e : s.collector.stage ≡ Scan) (here : ℕ) (place : s.collector.scanned ≡ Some here) where
     not_in_mark : {A : Type 0} → s.collector.stage ≡ Mark → A
     not_in_mark q = let z : ◌≡◌ {A = ℕ} 0 1 = cc in absurd (omega arith)
 
@@ -109,7 +108,7 @@ module _ (s : State) (I : Invariant s) (free-hand : s.collector.hand ≡ None) (
         pending_on c (ahead {k} q p l h g) =
             let same : k ≡ here = scanned_same (sym p ∙ place) in
             ⊎_elim
-            (λ (r : here + 1 ≡ c). at_scan refl (ap ScannedAt r) refl h g)
+            (λ (r : here + 1 ≡ c). at_scan refl (ap Some r) refl h g)
             (λ (r : here + 1 ≡ c → ⊥). ahead refl refl (let far : here + 1 < c = omega arith in far) h g)
             (cases_eq (here + 1) c)
         pending_on c (at_scan q p l h g) = let z : ◌≡◌ {A = ℕ} 0 1 = cc in absurd (omega arith)

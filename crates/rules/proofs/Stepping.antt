@@ -4,8 +4,6 @@ use Rattle.std.proofs.lemmas.Bool.{cases_Bool, cond-true, leb-false, or_left, or
 use Rattle.cells.specs.declared.Colour.{Colour}
 use Rattle.cells.specs.declared.Colour.TheVariants.{Blue, White, Grey, Black}
 use Rattle.cells.specs.Memory.{Cells, settable, relinked, linked}
-use Rattle.rules.specs.declared.Scanned.{Scanned}
-use Rattle.rules.specs.declared.Scanned.TheVariants.{Before as Unscanned, At as ScannedAt}
 use Rattle.rules.specs.declared.Step.{Step}
 use Rattle.rules.specs.declared.Step.TheVariants.{Grey as GreyStep, Warn, Store}
 use Rattle.rules.specs.declared.Work.{Work}
@@ -97,9 +95,9 @@ module _ (s : State) (I : Invariant s) (m : ℕ) (t : Task) (present : s.tasks m
       held : (j : ℕ) × (t.registers j ≡ Some x)
       held = I.works.cell_held m x i y (Warn old) t present work
 
-      warned_stays : (p : Scanned) (b : Bool) → b ≡ true → warned old p b ≡ true
-      warned_stays Unscanned b e = e
-      warned_stays (ScannedAt k) b e = or_right (leb old k) b e
+      warned_stays : (p : Option ℕ) (b : Bool) → b ≡ true → warned old p b ≡ true
+      warned_stays None b e = e
+      warned_stays (Some k) b e = or_right (leb old k) b e
 
       J : Invariant s₁
       J = warned_turn s I again (warned_stays s.collector.scanned s.collector.dirty)

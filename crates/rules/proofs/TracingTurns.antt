@@ -6,7 +6,6 @@ use Rattle.cells.specs.declared.Colour.TheVariants.{Blue, White, Grey, Black}
 use Rattle.bags.specs.Holding.{has_member}
 use Rattle.rules.specs.declared.Status.TheVariants.{Async}
 use Rattle.rules.specs.declared.Stage.TheVariants.{Mark, Scan}
-use Rattle.rules.specs.declared.Scanned.TheVariants.{At as ScannedAt}
 use Rattle.rules.specs.declared.Hand.{Hand}
 use Rattle.rules.specs.State.{State, Outcome}
 use Rattle.rules.specs.Greying.{is_grey}
@@ -131,7 +130,7 @@ module _ (s : State) (I : Invariant s) (free-hand : s.collector.hand ≡ None) (
       in_directory c q = start (directory (near_cell c q))
 
   -- the cell at scanned is looked at, and blackened if it is Grey
-  module _ (e : s.collector.stage ≡ Scan) (k : ℕ) (place : s.collector.scanned ≡ ScannedAt k) (inside : k < s.cells.size) where
+  module _ (e : s.collector.stage ≡ Scan) (k : ℕ) (place : s.collector.scanned ≡ Some k) (inside : k < s.cells.size) where
     -- in Scan a cell being made is Black
     grey_not_made : s.cells.colour k ≡ Grey → ¬ (Made s k)
     grey_not_made g (made_by m a {t} p q) =

@@ -8,7 +8,6 @@ use Rattle.bags.specs.Holding.{Hold, copies}
 use Rattle.rules.specs.declared.Status.TheVariants.{Sync1}
 use Rattle.rules.specs.declared.Stage.TheVariants.{Mark, Scan}
 use Rattle.rules.specs.declared.Swept.TheVariants.{At}
-use Rattle.rules.specs.declared.Scanned.TheVariants.{At as ScannedAt}
 use Rattle.rules.specs.declared.Collector.{Collector}
 use Rattle.rules.specs.declared.Work.TheVariants.{Making}
 use Rattle.rules.specs.State.{Task, State}
@@ -49,8 +48,8 @@ module _ (m : Cells) (cache : Hold) (co : Collector) (d : ℕ) (made : ℕ → T
     cached : 0 < copies cache.members c → PendingOf c
     grey_in_mark : co.stage ≡ Mark → KeptOf c → m.colour c ≡ Grey → PendingOf c
     in_directory : co.stage ≡ Mark → co.next ≤ c → c < d → m.colour c ≢ Black → PendingOf c
-    ahead : {k : ℕ} → co.stage ≡ Scan → co.scanned ≡ ScannedAt k → k < c → KeptOf c → m.colour c ≡ Grey → PendingOf c
-    at_scan : co.stage ≡ Scan → co.scanned ≡ ScannedAt c → co.looked ≡ false → KeptOf c → m.colour c ≡ Grey → PendingOf c
+    ahead : {k : ℕ} → co.stage ≡ Scan → co.scanned ≡ Some k → k < c → KeptOf c → m.colour c ≡ Grey → PendingOf c
+    at_scan : co.stage ≡ Scan → co.scanned ≡ Some c → co.looked ≡ false → KeptOf c → m.colour c ≡ Grey → PendingOf c
     dirty : co.stage ≡ Scan → co.dirty ≡ true → KeptOf c → m.colour c ≡ Grey → PendingOf c
 
   -- a field that is not cut leads from x to c, which is not Black, nor the cell at scanned that Scan has looked at
@@ -59,7 +58,7 @@ module _ (m : Cells) (cache : Hold) (co : Collector) (d : ℕ) (made : ℕ → T
     pub names : m.link x link ≡ Some c
     pub uncut : Cut x link ≡ false
     pub not_black : m.colour c ≢ Black
-    pub not_at_scan : ¬ ((co.stage ≡ Scan) × (co.scanned ≡ ScannedAt c) × Traces co cache)
+    pub not_at_scan : ¬ ((co.stage ≡ Scan) × (co.scanned ≡ Some c) × Traces co cache)
 
   -- what the marking is still to blacken starts at pending cells and at what the hand follows
   pub data TraceRoot (Cut : ℕ → ℕ → Bool) (c : ℕ) : Type 0 where

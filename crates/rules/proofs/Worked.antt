@@ -1,9 +1,7 @@
 -- The worked examples hold of the definitions.
-use Rattle.std.proofs.Common.{◌≡◌, ℕ, zero, suc, ◌+◌, ◌<◌, ◌≤◌, true, false, ◌&&◌, ltb, leb, Some, refl, ap, ◌∙◌, arith}
+use Rattle.std.proofs.Common.{◌≡◌, ℕ, zero, suc, ◌+◌, ◌<◌, ◌≤◌, true, false, ◌&&◌, ltb, leb, Some, refl, ap, ◌∙◌, arith, Option}
 use Rattle.std.proofs.lemmas.Bool.Decides.{nat_tests}
 use Rattle.std.proofs.lemmas.Bool.{cond-true, cond-false}
-use Rattle.rules.specs.declared.Scanned.{Scanned}
-use Rattle.rules.specs.declared.Scanned.TheVariants.{At as ScannedAt}
 use Rattle.rules.specs.declared.Refusal.TheVariants.{MemorySize, DirectorySize}
 use Rattle.rules.specs.State.{State, accepted, refused, by}
 use Rattle.rules.specs.SettingUp.{begun, fit_bags, set_up}
@@ -27,7 +25,7 @@ directory_refused s d some few bad =
     ap (λ c. by s c (λ _. accepted 0 (begun s d))) (cond-true _ _ _ size ∙ cond-false _ _ _ bad)
 
 -- a cell that finds no place in the cache
-overflow : (s : State) (v : ℕ) (p : Scanned) → is_black (s.cells.colour v) ≡ false → has_room s.cache ≡ false → s.collector.scanned ≡ p → (blacken s v).collector.dirty ≡ overflowed v p s.collector.dirty
+overflow : (s : State) (v : ℕ) (p : Option ℕ) → is_black (s.cells.colour v) ≡ false → has_room s.cache ≡ false → s.collector.scanned ≡ p → (blacken s v).collector.dirty ≡ overflowed v p s.collector.dirty
 overflow s v p colour full place =
     ap (λ (x : State). x.collector.dirty) (cond-false _ _ _ colour ∙ cond-false _ _ _ full) ∙ ap (λ q. overflowed v q s.collector.dirty) place
 
@@ -60,8 +58,8 @@ worked_examples_lem = record {
   warn_above = λ dirty. refl;
   warn_unscanned = λ dirty. refl;
   warn_at = λ dirty. refl;
-  overflow_at = λ s colour full place. overflow s 3 (ScannedAt 3) colour full place;
-  overflow_passed = λ s colour full place. overflow s 3 (ScannedAt 4) colour full place;
+  overflow_at = λ s colour full place. overflow s 3 (Some 3) colour full place;
+  overflow_passed = λ s colour full place. overflow s 3 (Some 4) colour full place;
   cycle = cycle_turns;
   cycle_board = refl;
   cycle_bytes = refl;

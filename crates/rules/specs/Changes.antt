@@ -7,8 +7,6 @@ use Rattle.rules.specs.declared.Status.{Status}
 use Rattle.rules.specs.declared.Status.TheVariants.{Async, Sync1, Sync2}
 use Rattle.rules.specs.declared.Swept.{Swept}
 use Rattle.rules.specs.declared.Swept.TheVariants.{Before, At, Past}
-use Rattle.rules.specs.declared.Scanned.{Scanned}
-use Rattle.rules.specs.declared.Scanned.TheVariants.{Before as Unscanned, At as ScannedAt}
 use Rattle.rules.specs.declared.Step.{Step}
 use Rattle.rules.specs.declared.Step.TheVariants.{Grey, Warn, Store}
 use Rattle.rules.specs.declared.Work.{Work}
@@ -76,9 +74,9 @@ settled_colour Sync1 swept x = White
 settled_colour Sync2 swept x = White
 
 -- dirty after the warning about old: yes, if the scan may have passed it
-abbrev pub warned : ℕ → Scanned → Bool → Bool
-warned old Unscanned dirty = dirty
-warned old (ScannedAt k) dirty = nat_le old k || dirty
+abbrev pub warned : ℕ → Option ℕ → Bool → Bool
+warned old None dirty = dirty
+warned old (Some k) dirty = nat_le old k || dirty
 
 abbrev pub with_dirty : Collector → Bool → Collector
 with_dirty c x = record { status = c.status; phase = c.phase; swept = c.swept; scanned = c.scanned; dirty = x; stage = c.stage; next = c.next; looked = c.looked; hand = c.hand }

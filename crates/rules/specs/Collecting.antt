@@ -10,8 +10,6 @@ use Rattle.rules.specs.declared.Stage.{Stage}
 use Rattle.rules.specs.declared.Stage.TheVariants.{Rest, Clear, Mark, Scan, Sweep}
 use Rattle.rules.specs.declared.Swept.{Swept}
 use Rattle.rules.specs.declared.Swept.TheVariants.{Before, At, Past}
-use Rattle.rules.specs.declared.Scanned.{Scanned}
-use Rattle.rules.specs.declared.Scanned.TheVariants.{Before as Unscanned, At as ScannedAt}
 use Rattle.rules.specs.declared.Hand.{Hand}
 use Rattle.rules.specs.State.{Task, State, Outcome, accepted, with_cells, with_free, with_cache, with_collector}
 use Rattle.rules.specs.Greying.{same_status, is_black, is_grey}
@@ -36,9 +34,9 @@ abbrev pub all_agree : State → Bool
 all_agree s = agree_to 8 s.collector.status s.tasks
 
 -- dirty after a Grey cell v had no place in the cache: yes, if the scan is past it
-abbrev pub overflowed : ℕ → Scanned → Bool → Bool
-overflowed v Unscanned dirty = dirty
-overflowed v (ScannedAt k) dirty = nat_lt v k || dirty
+abbrev pub overflowed : ℕ → Option ℕ → Bool → Bool
+overflowed v None dirty = dirty
+overflowed v (Some k) dirty = nat_lt v k || dirty
 
 abbrev pub blacken : State → ℕ → State
 blacken s v =
@@ -92,7 +90,7 @@ abbrev pub with_next : State → ℕ → State
 with_next s j = with_collector s (record { status = s.collector.status; phase = s.collector.phase; swept = s.collector.swept; scanned = s.collector.scanned; dirty = s.collector.dirty; stage = s.collector.stage; next = j; looked = s.collector.looked; hand = s.collector.hand })
 
 abbrev pub scan_from : State → Bool → ℕ → State
-scan_from s dirty k = with_collector s (record { status = s.collector.status; phase = s.collector.phase; swept = s.collector.swept; scanned = ScannedAt k; dirty = dirty; stage = Scan; next = s.collector.next; looked = false; hand = s.collector.hand })
+scan_from s dirty k = with_collector s (record { status = s.collector.status; phase = s.collector.phase; swept = s.collector.swept; scanned = Some k; dirty = dirty; stage = Scan; next = s.collector.next; looked = false; hand = s.collector.hand })
 
 abbrev pub marking : State → Outcome
 marking s =
@@ -106,11 +104,11 @@ abbrev pub looking : State → ℕ → State
 looking s k = with_looked (cond (is_grey (s.cells.colour k)) (blacken s k) s) true
 
 abbrev pub sweep_from : State → State
-sweep_from s = with_collector s (record { status = s.collector.status; phase = s.collector.phase; swept = At 0; scanned = Unscanned; dirty = s.collector.dirty; stage = Sweep; next = s.collector.next; looked = false; hand = s.collector.hand })
+sweep_from s = with_collector s (record { status = s.collector.status; phase = s.collector.phase; swept = At 0; scanned = None; dirty = s.collector.dirty; stage = Sweep; next = s.collector.next; looked = false; hand = s.collector.hand })
 
-abbrev pub scanning : State → Scanned → Outcome
-scanning s Unscanned = waits s
-scanning s (ScannedAt k) =
+abbrev pub scanning : State → Option ℕ → Outcome
+scanning s None = waits s
+scanning s (Some k) =
     tracing s s.collector.hand
     (cond (nat_lt k s.cells.size)
     (cond s.collector.looked (works (scan_from s s.collector.dirty (k + 1))) (works (looking s k)))

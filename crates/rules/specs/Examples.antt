@@ -7,7 +7,6 @@ use Rattle.bags.specs.Rounds.{empty_ring}
 use Rattle.rules.specs.declared.Status.TheVariants.{Async, Sync1}
 use Rattle.rules.specs.declared.Swept.{Swept}
 use Rattle.rules.specs.declared.Swept.TheVariants.{Before, At, Past}
-use Rattle.rules.specs.declared.Scanned.TheVariants.{Before as Unscanned, At as ScannedAt}
 use Rattle.rules.specs.declared.Refusal.{Refusal}
 use Rattle.rules.specs.declared.Refusal.TheVariants.{MemorySize, DirectorySize}
 use Rattle.rules.specs.State.{State, accepted, refused}
@@ -61,12 +60,12 @@ pub record WorkedExamples : Type 0 where
   pub settle_swept : settled_colour Async Past 5 ≡ White
   pub settle_sync : (swept : Swept) → settled_colour Sync1 swept 5 ≡ White
   -- the warning about cell 5
-  pub warn_above : (dirty : Bool) → warned 5 (ScannedAt 4) dirty ≡ dirty
-  pub warn_unscanned : (dirty : Bool) → warned 5 Unscanned dirty ≡ dirty
-  pub warn_at : (dirty : Bool) → warned 5 (ScannedAt 5) dirty ≡ true
+  pub warn_above : (dirty : Bool) → warned 5 (Some 4) dirty ≡ dirty
+  pub warn_unscanned : (dirty : Bool) → warned 5 None dirty ≡ dirty
+  pub warn_at : (dirty : Bool) → warned 5 (Some 5) dirty ≡ true
   -- blackening cell 3 while the cache is full
-  pub overflow_at : (s : State) → is_black (s.cells.colour 3) ≡ false → has_room s.cache ≡ false → s.collector.scanned ≡ ScannedAt 3 → (blacken s 3).collector.dirty ≡ s.collector.dirty
-  pub overflow_passed : (s : State) → is_black (s.cells.colour 3) ≡ false → has_room s.cache ≡ false → s.collector.scanned ≡ ScannedAt 4 → (blacken s 3).collector.dirty ≡ true
+  pub overflow_at : (s : State) → is_black (s.cells.colour 3) ≡ false → has_room s.cache ≡ false → s.collector.scanned ≡ Some 3 → (blacken s 3).collector.dirty ≡ s.collector.dirty
+  pub overflow_passed : (s : State) → is_black (s.cells.colour 3) ≡ false → has_room s.cache ≡ false → s.collector.scanned ≡ Some 4 → (blacken s 3).collector.dirty ≡ true
   -- a cycle of 12 + L turns, so 16 on board and 14 on byte memory
   pub cycle : (L : ℕ) → 1 ≤ L → L ≤ 8 → first_return 20 (loop L) ≡ Some (12 + L)
   pub cycle_board : first_return 20 (loop 4) ≡ Some 16

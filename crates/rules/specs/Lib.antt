@@ -13,3 +13,4 @@ pub mod Examples
 pub mod Turns
 pub mod Reach
 pub mod Law
+pub mod TurnNumbers

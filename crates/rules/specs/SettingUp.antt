@@ -6,14 +6,13 @@ use Rattle.bags.specs.Holding.{Hold, has_member, put_into}
 use Rattle.rules.specs.declared.Status.TheVariants.{Async}
 use Rattle.rules.specs.declared.Stage.TheVariants.{Rest}
 use Rattle.rules.specs.declared.Swept.TheVariants.{Past}
-use Rattle.rules.specs.declared.Scanned.TheVariants.{Before}
 use Rattle.rules.specs.declared.Collector.{Collector}
 use Rattle.rules.specs.declared.Refusal.{Refusal}
 use Rattle.rules.specs.declared.Refusal.TheVariants.{MemorySize, DirectorySize, UnfitBags}
 use Rattle.rules.specs.State.{State, Outcome, accepted, need, by}
 
 abbrev pub resting : Collector
-resting = record { status = Async; phase = Async; swept = Past; scanned = Before; dirty = false; stage = Rest; next = 0; looked = false; hand = None }
+resting = record { status = Async; phase = Async; swept = Past; scanned = None; dirty = false; stage = Rest; next = 0; looked = false; hand = None }
 
 -- before the set up there are no slots
 abbrev pub not_set_up : Cells → ℕ → Hold → Hold → State

@@ -4,6 +4,7 @@
 ghost use Rattle.std.specs.Prelude.{◌≡◌};
 ghost use Rattle.rules.specs.Examples.{WorkedExamples};
 ghost use Rattle.rules.specs.Refusals.{refusal_number};
+ghost use Rattle.rules.specs.TurnNumbers.{turn_number};
 
 // How far a task or the collector is with the handshake.
 #[derive(Clone, Copy, PartialEq, Eq, Debug)]
@@ -23,19 +24,12 @@ pub enum Stage {
     Sweep,
 }
 
-// How far the sweep is: before every cell, at one, or past them all.
-#[derive(Clone, Copy)]
+// How far the sweep is: before every cell, at one, or past them all, and so in this order.
+#[derive(Clone, Copy, PartialEq, Eq, PartialOrd, Ord)]
 pub enum Swept {
     Before,
     At(u16),
     Past,
-}
-
-// How far the scan is: before every cell, or at one; at n it has looked at all.
-#[derive(Clone, Copy)]
-pub enum Scanned {
-    Before,
-    At(u16),
 }
 
 // The cell that the collector traces from, and the link it follows next.
@@ -50,7 +44,8 @@ pub struct Collector {
     pub status: Status,
     pub phase: Status,
     pub swept: Swept,
-    pub scanned: Scanned,
+    // the cell that the scan is at, or n where it has looked at all; none while it is before every cell
+    pub scanned: Option<u16>,
     // a Grey cell may stand behind the scan
     pub dirty: bool,
     pub stage: Stage,
@@ -59,6 +54,16 @@ pub struct Collector {
     // the cell at scanned or swept is looked at
     pub looked: bool,
     pub hand: Option<Hand>,
+}
+
+// What a turn of the collector came to.
+#[derive(Clone, Copy, PartialEq, Eq, Debug)]
+pub enum Turn {
+    // it waits for tasks, and nothing changed
+    Waited = 0,
+    Worked = 1,
+    // it came back to Rest
+    Returned = 2,
 }
 
 // What the next carry on of a change does.
@@ -164,58 +169,46 @@ pub enum Call {
 // Why a call of the symbol memory is refused, in the order of the checks.
 #[derive(Clone, Copy, PartialEq, Eq, Debug)]
 pub enum Refusal {
-    MemorySize,
-    DirectorySize,
-    NoSuchSlot,
-    NoSuchRegister,
-    NoSuchLink,
-    NoSuchDirectoryCell,
-    UnfitBags,
-    NoTask,
-    SlotTaken,
-    WorkUnfinished,
-    StatusBehind,
-    RegisterEmpty,
-    PoolEmpty,
-    PoolFull,
-    FreeListEmpty,
-    PoolNotEmpty,
-    NothingToCarryOn,
-    NoSuchMaking,
-    NotSettled,
+    MemorySize = 1,
+    DirectorySize = 2,
+    NoSuchSlot = 3,
+    NoSuchRegister = 4,
+    NoSuchLink = 5,
+    NoSuchDirectoryCell = 6,
+    UnfitBags = 10,
+    NoTask = 11,
+    SlotTaken = 12,
+    WorkUnfinished = 13,
+    StatusBehind = 14,
+    RegisterEmpty = 15,
+    PoolEmpty = 16,
+    PoolFull = 17,
+    FreeListEmpty = 18,
+    PoolNotEmpty = 19,
+    NothingToCarryOn = 20,
+    NoSuchMaking = 21,
+    NotSettled = 22,
 }
 
-impl Refusal {
-    pub fn number(self) -> u16
-        ensures { result ≡ refusal_number self }
-    {
-        match self {
-            Refusal::MemorySize => 1,
-            Refusal::DirectorySize => 2,
-            Refusal::NoSuchSlot => 3,
-            Refusal::NoSuchRegister => 4,
-            Refusal::NoSuchLink => 5,
-            Refusal::NoSuchDirectoryCell => 6,
-            Refusal::UnfitBags => 10,
-            Refusal::NoTask => 11,
-            Refusal::SlotTaken => 12,
-            Refusal::WorkUnfinished => 13,
-            Refusal::StatusBehind => 14,
-            Refusal::RegisterEmpty => 15,
-            Refusal::PoolEmpty => 16,
-            Refusal::PoolFull => 17,
-            Refusal::FreeListEmpty => 18,
-            Refusal::PoolNotEmpty => 19,
-            Refusal::NothingToCarryOn => 20,
-            Refusal::NoSuchMaking => 21,
-            Refusal::NotSettled => 22,
-        }
+// The number by which hosts know the refusal.
+impl From<Refusal> for u16 {
+    ghost from_gives = { λ refusal number. number ≡ refusal_number refusal };
+
+    fn from(refusal: Refusal) -> u16 {
+        refusal as u16
+    }
+}
+
+// What the call answers.
+impl From<Turn> for u16 {
+    ghost from_gives = { λ turn number. number ≡ turn_number turn };
+
+    fn from(turn: Turn) -> u16 {
+        turn as u16
     }
 }
 
 // The worked examples hold of the definitions.
-pub fn worked_examples() -> u8
+pub fn worked_examples()
     ensures { WorkedExamples }
-{
-    0
-}
+{}

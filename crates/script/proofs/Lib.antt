@@ -1,5 +1,5 @@
-pub mod Decimals
+pub mod Ends
 mod Examples
 pub mod Numbers
 pub mod Places
-pub mod Runs
+pub mod Requests

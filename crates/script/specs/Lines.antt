@@ -1,7 +1,7 @@
 -- The language of the scripts: a line is a word and then numbers, each after one space.
-use Rattle.std.specs.Prelude.{ℕ, zero, suc, ◌+◌, ◌-◌, ◌*◌, min, Bool, true, false, cond, not, ◌&&◌, ◌||◌, List, [], ◌∷◌, ◌++◌, length, take, drop, replicate, Some, None, Ok, Err, Option, Result, ◌==◌, nat_le}
+use Rattle.std.specs.Prelude.{ℕ, zero, suc, ◌+◌, ◌-◌, ◌*◌, min, Bool, true, false, cond, ◌&&◌, ◌||◌, List, [], ◌∷◌, ◌++◌, length, take, drop, replicate, Some, None, Ok, Err, Option, Result, ◌==◌, nat_le}
 use Rattle.std.specs.Char.{is_ascii_digit}
-use Rattle.std.specs.List.{prefix_len}
+use Rattle.std.specs.List.{position_or_len}
 use Rattle.script.specs.declared.LineRefusal.{LineRefusal}
 use Rattle.script.specs.declared.LineRefusal.TheVariants.{UnknownWord, BadNumbers}
 use Rattle.script.specs.declared.Request.{Request}
@@ -19,7 +19,7 @@ ended (b ∷ bs) = false
 
 -- how many bytes come before the first `stop`, the line feed or the end
 abbrev pub before : ℕ → List ℕ → ℕ
-before stop text = prefix_len (λ b. not (b == stop || b == 10)) text
+before stop text = position_or_len (λ b. b == stop || b == 10) text
 
 -- a line goes up to its line feed, which the last one may lack
 abbrev pub line_of : List ℕ → List ℕ
@@ -82,9 +82,11 @@ abbrev pub asked : Verb → Option (List ℕ) → Result Request LineRefusal
 asked verb None = Err BadNumbers
 asked verb (Some numbers) = Ok (record { verb = verb; numbers = numbers })
 
+-- what a line asks for that begins with a verb, if it does
+abbrev pub asked_by : Option Verb → List ℕ → Result Request LineRefusal
+asked_by None line = Err UnknownWord
+asked_by (Some verb) line = asked verb (filled (numbers_of (arity_of verb) (drop (word_size line) line)))
+
 -- what a line asks for; the word is judged before the numbers
 abbrev pub request_of : List ℕ → Result Request LineRefusal
-request_of line = elim (verb_of (word_of line)) [
-  | None ↦ Err UnknownWord
-  | Some verb ↦ asked verb (filled (numbers_of (arity_of verb) (drop (word_size line) line)))
-]
+request_of line = asked_by (verb_of (word_of line)) line

@@ -1,5 +1,5 @@
 -- The words of a script, each with its text and how many numbers follow it.
-use Rattle.std.specs.Prelude.{ℕ, cond, List, [], ◌∷◌, Some, None, codes, Option}
+use Rattle.std.specs.Prelude.{ℕ, List, [], ◌∷◌, codes, find, Option}
 use Rattle.std.specs.Str.{bytes_eq}
 use Rattle.script.specs.declared.words.Verb.{Verb}
 use Rattle.script.specs.declared.words.Verb.TheVariants.{Enter, Leave, Point, Move, Clear, Load, Reserve, Back, Colour}
@@ -30,10 +30,6 @@ arity_of Colour = 1
 abbrev pub verbs : List Verb
 verbs = Enter ∷ Leave ∷ Point ∷ Move ∷ Clear ∷ Load ∷ Reserve ∷ Back ∷ Colour ∷ []
 
--- the first of these with the text
-abbrev pub first_named : List ℕ → List Verb → Option Verb
-first_named word [] = None
-first_named word (verb ∷ others) = cond (bytes_eq word (text_of verb)) (Some verb) (first_named word others)
-
+-- the first with the text
 abbrev pub verb_of : List ℕ → Option Verb
-verb_of word = first_named word verbs
+verb_of word = find (λ verb. bytes_eq word (text_of verb)) verbs

@@ -2,7 +2,10 @@
 // the same in the three tables of specs/Verbs.antt, with a line in proofs/Examples.antt.
 ghost use Rattle.std.specs.Prelude.{◌≡◌};
 ghost use Rattle.script.specs.Verbs.{arity_of, text_of, verb_of};
-ghost use Rattle.std.specs.Str.{bytes_eq};
+ghost use Rattle.script.specs.declared.LineRefusal.TheVariants.{UnknownWord};
+ghost use Rattle.std.specs.Option.{ok_or};
+
+use crate::LineRefusal;
 
 /// What a line calls for.
 #[derive(Clone, Copy, PartialEq, Eq, Debug)]
@@ -31,16 +34,11 @@ impl Verb {
         Verb::Colour,
     ];
 
-    /// The verb with this text, letter by letter.
-    pub fn named(word: &[u8]) -> Option<Verb>
+    // The first verb with this text, letter by letter.
+    fn named(word: &[u8]) -> Option<Verb>
         ensures { result ≡ verb_of word.now }
     {
-        for verb in Verb::ALL {
-            if same(word, verb.text()) {
-                return Some(verb);
-            }
-        }
-        None
+        Verb::ALL.iter().copied().find(|verb| word == verb.text())
     }
 
     fn text(self) -> &'static [u8]
@@ -72,8 +70,13 @@ impl Verb {
     }
 }
 
-fn same(word: &[u8], text: &[u8]) -> bool
-    ensures { result ≡ bytes_eq word.now text.now }
-{
-    word == text
+/// The verb with this text; `UnknownWord` where there is none.
+impl<'a> TryFrom<&'a [u8]> for Verb {
+    type Error = LineRefusal;
+
+    ghost try_from_gives = { λ word verb. verb ≡ ok_or (verb_of word.now) UnknownWord };
+
+    fn try_from(word: &'a [u8]) -> Result<Verb, LineRefusal> {
+        Verb::named(word).ok_or(LineRefusal::UnknownWord)
+    }
 }

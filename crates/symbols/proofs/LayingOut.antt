@@ -70,9 +70,10 @@ abbrev with_rest : State → ℕ → (ℕ → Option Task) → Collector → Sta
 with_rest t d ts co = record { cells = t.cells; links = t.links; free = t.free; cache = t.cache; directory = d; tasks = ts; collector = co }
 
 -- with all cells laid out, no task and the collector at rest, the symbol memory has begun
-pub laid_begun : (s t : State) (d x : ℕ) (ts : ℕ → Option Task) (co : Collector) → Sound s.links s.cells → t ≡ laid_to s d x → x ≡ s.cells.size → ts ≡ (λ m. None) → co ≡ resting
-    → with_rest t d ts co ≡ begun s d
-laid_begun s t d x ts co sound state end none rest =
-    ap (λ u. with_rest u d ts co) (state ∙ ap (laid_to s d) end) ∙ ap₂ (with_rest (laid_to s d s.cells.size) d) none rest
+pub laid_begun : (s t : State) (d e x : ℕ) (ts : ℕ → Option Task) (co : Collector) → Sound s.links s.cells → t ≡ laid_to s d x → x ≡ s.cells.size → e ≡ d → ts ≡ (λ m. None) → co ≡ resting
+    → with_rest t e ts co ≡ begun s d
+laid_begun s t d e x ts co sound state end same none rest =
+    ap (λ n. with_rest t n ts co) same
+    ∙ ap (λ u. with_rest u d ts co) (state ∙ ap (laid_to s d) end) ∙ ap₂ (with_rest (laid_to s d s.cells.size) d) none rest
     ∙ ap (λ (m : Cells). record { cells = m; links = s.links; free = rising s.free d (s.cells.size - d); cache = s.cache; directory = d; tasks = λ m. None; collector = resting })
     (all_laid s.links s.cells sound d)

@@ -2,19 +2,11 @@
 use Rattle.std.specs.Prelude.{ℕ, ◌-◌, cond, None, nat_lt}
 use Rattle.cells.specs.declared.Colour.{Colour}
 use Rattle.cells.specs.declared.Colour.TheVariants.{Blue, White}
-use Rattle.cells.specs.Memory.{Cells, at, coloured, linked}
+use Rattle.cells.specs.Memory.{coloured}
 use Rattle.bags.specs.Holding.{put_into}
 use Rattle.rules.specs.State.{State, with_cells, with_free}
 use Rattle.rules.specs.Makings.{unlinked}
 use Rattle.rules.specs.SettingUp.{rising}
-
--- link i of cell x is set empty
-abbrev pub emptying_link : State → ℕ → ℕ → State
-emptying_link s x i = with_cells s (linked s.links s.cells x i None)
-
--- links 0 to k − 1 of cell x are empty
-abbrev pub emptied_to : Cells → ℕ → ℕ → Cells
-emptied_to m x k = record { size = m.size; colour = m.colour; link = at x (λ i. cond (nat_lt i k) None (m.link x i)) m.link }
 
 -- the colour of cell c as it begins beside d directory cells
 abbrev pub first_colour : ℕ → ℕ → Colour

@@ -1,4 +1,3 @@
 pub mod Views
-pub mod Moves
 pub mod Laying
 pub mod Tickets

@@ -5,19 +5,11 @@ use Rattle.bags.specs.declared.Bag.{Ghosts as BagGhosts}
 use Rattle.rules.specs.declared.Refusal.{Refusal}
 use Rattle.rules.specs.State.{State, Outcome}
 use Rattle.symbols.specs.declared.parts.Symbols.{Symbols}
-use Rattle.tasks.specs.Parts.{tasks_of}
+use Rattle.turns.specs.Parts.{state_with}
 
 module _ {M F C : Type 0} (m : MemoryGhosts M) (f : BagGhosts F) (c : BagGhosts C) where
   abbrev pub state_of : Symbols M F C → State
-  state_of h = record {
-    cells = m.means h.memory.now;
-    links = m.links;
-    free = f.means h.free.now;
-    cache = c.means h.cache.now;
-    directory = h.directory;
-    tasks = tasks_of h.tasks;
-    collector = h.collector;
-  }
+  state_of h = state_with h.control (m.means h.memory.now) m.links (f.means h.free.now) (c.means h.cache.now)
 
   -- h' has the memory and the bags that were lent to h, and what lies beside the table is as it was
   pub record Same (h h' : Symbols M F C) : Type 0 where

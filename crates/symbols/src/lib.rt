@@ -1,13 +1,10 @@
 // The symbol memory: tasks with registers and pools over any cell memory and any two bags.
 #![tactic(auto)]
 
-mod changes;
-mod handshake;
+mod calls;
 mod makings;
 mod parts;
-mod pools;
 mod questions;
-mod registers;
 mod set_up;
 mod ticket;
 

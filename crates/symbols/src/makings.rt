@@ -15,7 +15,7 @@ impl<'a, 'b, 'c, M: CellMemory, F: Bag, C: Bag> Symbols<'a, 'b, 'c, M, F, C> {
         ensures does { Does M.CellMemory F.Bag C.Bag (make m) self.old self.new (cell_named result) }
         ensures slot { SlotNamed m result }
     {
-        let cell = self.make_pair(m)?;
+        let cell = self.control.make(self.memory, m)?;
         Ok(Ticket { slot: m, cell })
     }
 
@@ -23,7 +23,7 @@ impl<'a, 'b, 'c, M: CellMemory, F: Bag, C: Bag> Symbols<'a, 'b, 'c, M, F, C> {
     pub fn fill(&mut self, m: usize, i: usize, a: usize) -> Result<u16, Refusal>
         ensures { Does M.CellMemory F.Bag C.Bag (fill m i a) self.old self.new result }
     {
-        turns::fill(self.memory, &self.tasks, self.directory, m, i, a)
+        self.control.fill(self.memory, m, i, a)
     }
 
     // Ends the making that the ticket names: register b of its task holds the cell.
@@ -32,13 +32,12 @@ impl<'a, 'b, 'c, M: CellMemory, F: Bag, C: Bag> Symbols<'a, 'b, 'c, M, F, C> {
         ensures back { HandsBack ticket result }
     {
         let Ticket { slot, cell } = ticket;
-        match self.finish_pair(slot, cell, b) {
-            Ok(answer) => Ok(answer),
-            Err(refusal) => Err(Unspent {
+        self.control
+            .finish(slot, cell, b)
+            .map_err(|refusal| Unspent {
                 ticket: Ticket { slot, cell },
                 refusal,
-            }),
-        }
+            })
     }
 
     // Ends the making that the ticket names: the cell goes back to the pool. The ticket is used up even where it is refused.
@@ -46,25 +45,6 @@ impl<'a, 'b, 'c, M: CellMemory, F: Bag, C: Bag> Symbols<'a, 'b, 'c, M, F, C> {
         ensures { Does M.CellMemory F.Bag C.Bag (scrap ticket.slot ticket.cell) self.old self.new result }
     {
         let Ticket { slot, cell } = ticket;
-        self.scrap_pair(slot, cell)
-    }
-
-    // In a list of calls a ticket is any pair of m and x; so make, finish and scrap stand on these three.
-    pub(crate) fn make_pair(&mut self, m: usize) -> Result<u16, Refusal>
-        ensures { Does M.CellMemory F.Bag C.Bag (make m) self.old self.new result }
-    {
-        turns::make(self.memory, &mut self.tasks, self.directory, m)
-    }
-
-    pub(crate) fn finish_pair(&mut self, m: usize, x: u16, b: usize) -> Result<u16, Refusal>
-        ensures { Does M.CellMemory F.Bag C.Bag (finish m x b) self.old self.new result }
-    {
-        turns::finish(&mut self.tasks, self.directory, m, x, b)
-    }
-
-    pub(crate) fn scrap_pair(&mut self, m: usize, x: u16) -> Result<u16, Refusal>
-        ensures { Does M.CellMemory F.Bag C.Bag (scrap m x) self.old self.new result }
-    {
-        turns::scrap(self.memory, &mut self.tasks, self.directory, m, x)
+        self.control.scrap(self.memory, slot, cell)
     }
 }

@@ -14,21 +14,21 @@ impl<'a, 'b, 'c, M: CellMemory, F: Bag, C: Bag> Symbols<'a, 'b, 'c, M, F, C> {
     pub fn register(&self, m: usize, j: usize) -> Result<Option<u16>, Refusal>
         ensures { result ≡ register_told (state_of M.CellMemory F.Bag C.Bag self.now).directory (state_of M.CellMemory F.Bag C.Bag self.now).tasks m j }
     {
-        self.tasks.register(self.directory, m, j)
+        self.control.register(m, j)
     }
 
     // The status of task m.
     pub fn status(&self, m: usize) -> Result<Status, Refusal>
         ensures { result ≡ status_told (state_of M.CellMemory F.Bag C.Bag self.now).directory (state_of M.CellMemory F.Bag C.Bag self.now).tasks m }
     {
-        self.tasks.status(self.directory, m)
+        self.control.status(m)
     }
 
     // How many cells the pool of task m has.
     pub fn pool_count(&self, m: usize) -> Result<usize, Refusal>
         ensures { result ≡ pool_told (state_of M.CellMemory F.Bag C.Bag self.now).directory (state_of M.CellMemory F.Bag C.Bag self.now).tasks m }
     {
-        self.tasks.pool_count(self.directory, m)
+        self.control.pool_count(m)
     }
 
     // How many cells the memory has.
@@ -42,7 +42,7 @@ impl<'a, 'b, 'c, M: CellMemory, F: Bag, C: Bag> Symbols<'a, 'b, 'c, M, F, C> {
     pub fn directory_count(&self) -> u16
         ensures { result ≡ (state_of M.CellMemory F.Bag C.Bag self.now).directory }
     {
-        self.directory
+        self.control.directory
     }
 
     // How many cells are in the free list.
@@ -62,14 +62,14 @@ impl<'a, 'b, 'c, M: CellMemory, F: Bag, C: Bag> Symbols<'a, 'b, 'c, M, F, C> {
     pub fn stage(&self) -> Stage
         ensures { result ≡ (state_of M.CellMemory F.Bag C.Bag self.now).collector.stage }
     {
-        self.collector.stage
+        self.control.collector.stage
     }
 
     // The status that the collector asks of the tasks.
     pub fn collector_status(&self) -> Status
         ensures { result ≡ (state_of M.CellMemory F.Bag C.Bag self.now).collector.status }
     {
-        self.collector.status
+        self.control.collector.status
     }
 
     pub fn colour(&self, cell: u16) -> Result<Colour, MemoryRefusal>

@@ -1,34 +1,16 @@
 // A symbol memory over what a host lends, and its set up.
 ghost use Rattle.std.specs.Prelude.{◌≡◌, OnOk};
 ghost use Rattle.rules.specs.Law.{Lawful};
-ghost use Rattle.rules.specs.SettingUp.{fit_bags, not_set_up, resting, set_up, set_up_checks};
-ghost use Rattle.rules.specs.Makings.{unlinked};
-ghost use Rattle.rules.specs.State.{with_cells};
-ghost use Rattle.symbols.specs.Laying.{emptying_link, laying};
+ghost use Rattle.rules.specs.SettingUp.{fit_bags, not_set_up, set_up, set_up_checks};
+ghost use Rattle.symbols.specs.Laying.{laying};
 ghost use Rattle.symbols.specs.Views.{state_of, Becomes, Does};
 
 use super::parts::Symbols;
 use bags::Bag;
 use cells::{CellMemory, Colour};
-use rules::{Collector, Refusal, Scanned, Stage, Status, Swept};
-use tasks::Tasks;
-
-// The collector as it begins.
-fn at_rest() -> Collector
-    ensures { result ≡ resting }
-{
-    Collector {
-        status: Status::Async,
-        phase: Status::Async,
-        swept: Swept::Past,
-        scanned: Scanned::Before,
-        dirty: false,
-        stage: Stage::Rest,
-        next: 0,
-        looked: false,
-        hand: None,
-    }
-}
+use cellwork::empty_links;
+use rules::Refusal;
+use turns::Control;
 
 impl<'a, 'b, 'c, M: CellMemory, F: Bag, C: Bag> Symbols<'a, 'b, 'c, M, F, C> {
     // A symbol memory that is not set up yet, and so has no slots; what is lent stays as it is.
@@ -49,9 +31,7 @@ impl<'a, 'b, 'c, M: CellMemory, F: Bag, C: Bag> Symbols<'a, 'b, 'c, M, F, C> {
             memory,
             free,
             cache,
-            directory: 0,
-            tasks: Tasks::new(),
-            collector: at_rest(),
+            control: Control::new(0),
         }
     }
 
@@ -64,12 +44,11 @@ impl<'a, 'b, 'c, M: CellMemory, F: Bag, C: Bag> Symbols<'a, 'b, 'c, M, F, C> {
     {
         self.check_set_up(d)?;
         let n = self.memory.count();
+        // A memory has no items to go over, so the cells are laid by their numbers.
         for x in 0..n {
             self.lay(x, d);
         }
-        self.directory = d;
-        self.tasks = Tasks::new();
-        self.collector = at_rest();
+        self.control = Control::new(d);
         Ok(0)
     }
 
@@ -104,27 +83,12 @@ impl<'a, 'b, 'c, M: CellMemory, F: Bag, C: Bag> Symbols<'a, 'b, 'c, M, F, C> {
     fn lay(&mut self, x: u16, d: u16)
         ensures { Becomes M.CellMemory F.Bag C.Bag (laying (state_of M.CellMemory F.Bag C.Bag self.old) d x) self.old self.new }
     {
-        self.empty_links(x);
+        empty_links(self.memory, x);
         if x < d {
             let _ = self.memory.set_colour(x, Colour::White);
         } else {
             let _ = self.memory.set_colour(x, Colour::Blue);
             let _ = self.free.put(x);
         }
-    }
-
-    // All links of cell x are emptied.
-    fn empty_links(&mut self, x: u16)
-        ensures { Becomes M.CellMemory F.Bag C.Bag (with_cells (state_of M.CellMemory F.Bag C.Bag self.old) (unlinked (state_of M.CellMemory F.Bag C.Bag self.old).cells x)) self.old self.new }
-    {
-        for i in 0..M::link_count() {
-            self.empty_link(x, i);
-        }
-    }
-
-    fn empty_link(&mut self, x: u16, i: usize)
-        ensures { Becomes M.CellMemory F.Bag C.Bag (emptying_link (state_of M.CellMemory F.Bag C.Bag self.old) x i) self.old self.new }
-    {
-        let _ = self.memory.set_link(x, i, None);
     }
 }

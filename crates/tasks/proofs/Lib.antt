@@ -1,3 +1,3 @@
 pub mod Agreeing
-pub mod PoolLaws
+pub mod Made
 pub mod Masking

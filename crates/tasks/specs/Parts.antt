@@ -1,22 +1,17 @@
 -- What the records of the tasks stand for, and what is made of them.
-use Rattle.std.specs.Prelude.{ℕ, min, Bool, cond, List, [], ◌∷◌, Some, None, Ok, Err, Option, Result, slice_index_or}
-use Rattle.bags.specs.Stacks.{stacked}
+use Rattle.std.specs.Prelude.{ℕ, Bool, Some, None, Ok, Err, Option, Result, slice_index_or}
+use Rattle.std.specs.Borrow.{Bor}
 use Rattle.rules.specs.declared.Refusal.{Refusal}
-use Rattle.rules.specs.declared.Refusal.TheVariants.{NoSuchMaking, NoTask, WorkUnfinished}
 use Rattle.rules.specs.declared.Status.{Status}
 use Rattle.rules.specs.declared.Work.{Work}
-use Rattle.rules.specs.declared.Work.TheVariants.{Change, Making}
-use Rattle.rules.specs.State.{Task, grown, in_slot, is_idle, with_pool, with_register, with_status, with_work}
-use Rattle.rules.specs.Makings.{older_of}
-use Rattle.tasks.specs.declared.parts.Pool.{Pool}
-use Rattle.tasks.specs.declared.parts.Task.{Task as TaskPart}
-use Rattle.tasks.specs.declared.parts.Tasks.{Tasks}
-
-abbrev pub pool_of : Pool → List ℕ
-pool_of p = stacked p.cells (min p.count 4)
+use Rattle.rules.specs.State.{Task, grown, in_slot, with_pool, with_register, with_status, with_work}
+use Rattle.rules.specs.Makings.{of_making, older_of}
+use Rattle.tasks.specs.Pools.{newest}
+use Rattle.tasks.specs.declared.task.Task.{Task as TaskPart}
+use Rattle.tasks.specs.declared.slots.Tasks.{Tasks}
 
 abbrev pub task_of : TaskPart → Task
-task_of t = record { status = t.status; registers = λ j. slice_index_or t.registers j None; pool = pool_of t.pool; work = t.work }
+task_of t = record { status = t.status; registers = λ j. slice_index_or t.registers j None; pool = t.pool; work = t.work }
 
 abbrev pub slot_of : Option TaskPart → Option Task
 slot_of None = None
@@ -25,25 +20,22 @@ slot_of (Some t) = Some (task_of t)
 abbrev pub tasks_of : Tasks → ℕ → Option Task
 tasks_of ts m = slot_of (slice_index_or ts.slots m None)
 
--- the task of a slot, where it has no unfinished work
-abbrev pub idle_in : Option TaskPart → Result TaskPart Refusal
-idle_in None = Err NoTask
-idle_in (Some t) = cond (is_idle t.work) (Ok t) (Err WorkUnfinished)
+-- the task that was lent, if any
+abbrev pub borrowed_slot : Option (Bor TaskPart) → Option Task
+borrowed_slot None = None
+borrowed_slot (Some t) = Some (task_of t.now)
 
--- the task of a slot that is making a cell, the cell, and whether it is settled
-abbrev pub making_in : TaskPart → Option Work → Result (TaskPart × ℕ × Bool) Refusal
-making_in t None = Err NoSuchMaking
-making_in t (Some (Change x i y step)) = Err WorkUnfinished
-making_in t (Some (Making x settled)) = Ok (t, x, settled)
+abbrev pub found : Result (Bor TaskPart) Refusal → Result Task Refusal
+found (Ok t) = Ok (task_of t.now)
+found (Err e) = Err e
 
-abbrev pub making_of : Option TaskPart → Result (TaskPart × ℕ × Bool) Refusal
-making_of None = Err NoTask
-making_of (Some t) = making_in t t.work
+-- a task that is making a cell, the cell, and whether it is settled
+abbrev pub making_found : Result (Bor TaskPart × ℕ × Bool) Refusal → Result (Task × ℕ × Bool) Refusal
+making_found (Ok f) = Ok (task_of f.0.now, f.1, f.2)
+making_found (Err e) = Err e
 
--- the last added cell of a pool
-abbrev pub newest : List ℕ → Option ℕ
-newest [] = None
-newest (x ∷ xs) = Some x
+abbrev pub making_of : Option Task → Result (Task × ℕ × Bool) Refusal
+making_of o = of_making o (λ t x settled. Ok (t, x, settled))
 
 abbrev pub with_grown : Option Task → ℕ → Option Task
 with_grown o x = in_slot (λ t. with_pool t (grown t.pool x)) o

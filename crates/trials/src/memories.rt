@@ -52,7 +52,7 @@ fn outside_a_byte_memory(rt: HostRuntime) {
     assert_eq!(rt; memory.colour(2), Err(MemoryRefusal::Outside));
     assert_eq!(rt; memory.link(0, 2), Err(MemoryRefusal::Outside));
     assert_eq!(rt; memory.set_link(0, 0, Some(2)), Err(MemoryRefusal::Outside));
-    assert_eq!(rt; MemoryRefusal::Outside.number(), 9);
+    assert_eq!(rt; u16::from(MemoryRefusal::Outside), 9);
 }
 
 #[test]

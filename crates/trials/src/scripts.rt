@@ -6,10 +6,7 @@ fn refused(text: &[u8]) -> Option<LineRefusal> {
 }
 
 fn verb(text: &[u8]) -> Option<Verb> {
-    match Reader::new(text).request() {
-        Ok(request) => Some(request.verb),
-        Err(_) => None,
-    }
+    Reader::new(text).request().ok().map(|request| request.verb)
 }
 
 #[test]

@@ -21,10 +21,7 @@ fn set_up(
     let mut free = Pile::new(&mut free_row);
     let mut cache = Pile::new(&mut cache_row);
     let mut symbols = Symbols::over(&mut memory, &mut free, &mut cache);
-    match symbols.set_up(d) {
-        Ok(answer) => Ok(answer),
-        Err(refusal) => Ok(refusal.number()),
-    }
+    Ok(symbols.set_up(d).unwrap_or_else(u16::from))
 }
 
 #[test]

@@ -1,1 +1,4 @@
+pub mod Checked
+pub mod Drawing
+pub mod Returning
 pub mod Statuses

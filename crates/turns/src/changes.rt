@@ -1,128 +1,122 @@
 // Changes of a link, and the turns that carry a change or a making on.
-ghost use Rattle.std.specs.Prelude.{◌<◌, false, Ok};
+ghost use Rattle.std.specs.Prelude.{◌≡◌, false};
 ghost use Rattle.rules.specs.declared.Work.TheVariants.{Making};
 ghost use Rattle.rules.specs.Changes.{change, carry_on, carrying, stepping};
-ghost use Rattle.tasks.specs.Parts.{tasks_of};
-ghost use Rattle.turns.specs.Parts.{OnCellsBeside};
+ghost use Rattle.turns.specs.Parts.{OnCells};
+ghost use Rattle.turns.specs.Answers.{one_if, owing};
 
+use super::parts::{Control, link, register};
 use cells::CellMemory;
 use cellwork::{first_step, grey, grey_old, link_of, settled_colour, warned};
-use checks::{check_carry_on, check_change};
-use rules::{Collector, Refusal, Step, Work};
-use tasks::Tasks;
+use rules::{Refusal, Step, Work};
+use tasks::Eighth;
 
-// Begins to change link i of the cell in register a of task m into what register b holds; a later carry on writes it.
-pub fn change<M: CellMemory>(
-    memory: &mut M,
-    tasks: &mut Tasks,
-    d: u16,
-    collector: &Collector,
-    m: usize,
-    a: usize,
-    i: usize,
-    b: usize,
-) -> Result<u16, Refusal>
-    ensures { OnCellsBeside M.CellMemory (change m a i b) d memory.old memory.new (tasks_of tasks.old) (tasks_of tasks.new) collector.now collector.now result }
-{
-    let (x, y) = check_change(tasks, d, M::link_count(), m, a, i, b)?;
-    let old = link_of(memory, x, i);
-    let status = tasks.status_of(m);
-    let step = first_step(memory, status, collector.swept, old);
-    grey_old(memory, step, old);
-    tasks.set_work(
-        m,
-        Some(Work::Change {
-            cell: x,
-            link: i,
-            value: y,
-            step,
-        }),
-    );
-    Ok(0)
-}
+impl Control {
+    // Begins to change link i of the cell in register a of task m into what register b holds; a later carry on writes it.
+    pub fn change<M: CellMemory>(
+        &mut self,
+        memory: &mut M,
+        m: usize,
+        a: usize,
+        i: usize,
+        b: usize,
+    ) -> Result<u16, Refusal>
+        ensures { OnCells M.CellMemory (change m a i b) memory.old memory.new self.old self.new result }
+    {
+        let m = self.slot(m)?;
+        let (a, b) = (register(a)?, register(b)?);
+        let i = link::<M>(i)?;
+        let task = self.tasks.idle(m)?;
+        let cell = task.register(a).ok_or(Refusal::RegisterEmpty)?;
+        let value = task.register(b);
+        let old = link_of(memory, cell, i);
+        let step = first_step(memory, task.status, self.collector.swept, old);
+        grey_old(memory, step, old);
+        self.tasks.set_work(
+            m,
+            Some(Work::Change {
+                cell,
+                link: i,
+                value,
+                step,
+            }),
+        );
+        Ok(0)
+    }
 
-// One more turn of the unfinished work of task m; answers whether a further one is due.
-pub fn carry_on<M: CellMemory>(
-    memory: &mut M,
-    tasks: &mut Tasks,
-    d: u16,
-    collector: &mut Collector,
-    m: usize,
-) -> Result<u16, Refusal>
-    ensures { OnCellsBeside M.CellMemory (carry_on m) d memory.old memory.new (tasks_of tasks.old) (tasks_of tasks.new) collector.old collector.new result }
-{
-    match check_carry_on(tasks, d, m)? {
-        Work::Change {
-            cell,
-            link,
-            value,
-            step,
-        } => Ok(take_step(memory, tasks, d, collector, m, cell, link, value, step)),
-        Work::Making { cell, .. } => {
-            let now = *collector;
-            Ok(settle(memory, tasks, d, now, m, cell))
+    // One more turn of the unfinished work of task m; answers whether a further one is due.
+    pub fn carry_on<M: CellMemory>(&mut self, memory: &mut M, m: usize) -> Result<bool, Refusal>
+        ensures { OnCells M.CellMemory (carry_on m) memory.old memory.new self.old self.new (owing result) }
+    {
+        let m = self.slot(m)?;
+        let task = self.tasks.get(m).ok_or(Refusal::NoTask)?;
+        match task.work {
+            None | Some(Work::Making { settled: true, .. }) => Err(Refusal::NothingToCarryOn),
+            Some(
+                Work::Making {
+                    cell,
+                    settled: false,
+                },
+            ) => Ok(self.settle(memory, m, cell)),
+            Some(
+                Work::Change {
+                    cell,
+                    link,
+                    value,
+                    step,
+                },
+            ) => Ok(self.take_step(memory, m, cell, link, value, step)),
         }
     }
-}
 
-// The step that is due of a change of link i of cell x into y.
-fn take_step<M: CellMemory>(
-    memory: &mut M,
-    tasks: &mut Tasks,
-    d: u16,
-    collector: &mut Collector,
-    m: usize,
-    x: u16,
-    i: usize,
-    y: Option<u16>,
-    step: Step,
-) -> u16
-    requires { m < 8 }
-    ensures { OnCellsBeside M.CellMemory (λ s. stepping s m x i y step) d memory.old memory.new (tasks_of tasks.old) (tasks_of tasks.new) collector.old collector.new (Ok result) }
-{
-    match step {
-        Step::Grey => grey(memory, y),
-        Step::Warn(old) => {
-            collector.dirty = warned(old, collector.scanned, collector.dirty);
+    // The step that is due of a change of link i of cell x into y. A step is kept from turn to turn, so it is data and no closure.
+    fn take_step<M: CellMemory>(
+        &mut self,
+        memory: &mut M,
+        m: Eighth,
+        x: u16,
+        i: usize,
+        y: Option<u16>,
+        step: Step,
+    ) -> bool
+        ensures { OnCells M.CellMemory (λ s. stepping s m x i y step) memory.old memory.new self.old self.new (one_if result) }
+    {
+        match step {
+            Step::Grey => grey(memory, y),
+            Step::Warn(old) => {
+                self.collector.dirty = warned(old, self.collector.scanned, self.collector.dirty);
+            }
+            Step::Store => {
+                let _ = memory.set_link(x, i, y);
+                self.tasks.set_work(m, None);
+                return false;
+            }
         }
-        Step::Store => {
-            let _ = memory.set_link(x, i, y);
-            tasks.set_work(m, None);
-            return 0;
-        }
+        self.tasks.set_work(
+            m,
+            Some(Work::Change {
+                cell: x,
+                link: i,
+                value: y,
+                step: Step::Store,
+            }),
+        );
+        true
     }
-    tasks.set_work(
-        m,
-        Some(Work::Change {
-            cell: x,
-            link: i,
-            value: y,
-            step: Step::Store,
-        }),
-    );
-    1
-}
 
-// Cell x takes the colour that the state of the collector asks for.
-fn settle<M: CellMemory>(
-    memory: &mut M,
-    tasks: &mut Tasks,
-    d: u16,
-    collector: Collector,
-    m: usize,
-    x: u16,
-) -> u16
-    requires { m < 8 }
-    ensures { OnCellsBeside M.CellMemory (λ s. carrying s m (Making x false)) d memory.old memory.new (tasks_of tasks.old) (tasks_of tasks.new) collector collector (Ok result) }
-{
-    let colour = settled_colour(tasks.status_of(m), collector.swept, x);
-    let _ = memory.set_colour(x, colour);
-    tasks.set_work(
-        m,
-        Some(Work::Making {
-            cell: x,
-            settled: true,
-        }),
-    );
-    0
+    // Cell x takes the colour that the state of the collector asks for.
+    fn settle<M: CellMemory>(&mut self, memory: &mut M, m: Eighth, x: u16) -> bool
+        ensures { OnCells M.CellMemory (λ s. carrying s m (Making x false)) memory.old memory.new self.old self.new (one_if result) }
+    {
+        let colour = settled_colour(self.tasks.status_of(m), self.collector.swept, x);
+        let _ = memory.set_colour(x, colour);
+        self.tasks.set_work(
+            m,
+            Some(Work::Making {
+                cell: x,
+                settled: true,
+            }),
+        );
+        false
+    }
 }

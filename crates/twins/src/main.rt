@@ -19,68 +19,54 @@ const STEPS: [&str; 9] = [
     "leave",
 ];
 
-// What each step was answered, refusals by their number.
-fn job<'a, 'b, 'c, M: CellMemory, F: Bag, C: Bag>(
-    symbols: &mut Symbols<'a, 'b, 'c, M, F, C>,
-) -> [Result<u16, u16>; 9] {
+// What each step was answered.
+fn job<M: CellMemory, F: Bag, C: Bag>(
+    memory: &mut M,
+    free: &mut F,
+    cache: &mut C,
+) -> [Result<u16, Refusal>; 9] {
+    let mut symbols = Symbols::over(memory, free, cache);
     [
-        by_number(symbols.set_up(2)),
-        by_number(symbols.enter(0)),
-        by_number(symbols.point(0, 1, 3)),
-        by_number(symbols.load(0, 3, 0, 4)),
-        by_number(symbols.load(0, 4, 0, 5)),
-        by_number(symbols.reserve(0)),
-        by_number(symbols.leave(0)),
-        by_number(symbols.give_back(0)),
-        by_number(symbols.leave(0)),
+        symbols.set_up(2),
+        symbols.enter(0),
+        symbols.point(0, 1, 3),
+        symbols.load(0, 3, 0, 4),
+        symbols.load(0, 4, 0, 5),
+        symbols.reserve(0),
+        symbols.leave(0),
+        symbols.give_back(0),
+        symbols.leave(0),
     ]
 }
 
-fn by_number(answer: Result<u16, Refusal>) -> Result<u16, u16> {
-    match answer {
-        Ok(number) => Ok(number),
-        Err(refusal) => Err(refusal.number()),
-    }
-}
-
-fn on_board() -> [Result<u16, u16>; 9] {
+fn main(rt: HostRuntime) -> io::Result<()> {
     let mut records = [CellRecord {
         colour: 3,
         links: [0; 4],
     }; 8];
-    let mut row = [0u16; 6];
-    let mut memory = Board::new(&mut records);
-    let mut free = Pile::new(&mut row);
-    let mut cache = Ring::new();
-    let mut symbols = Symbols::over(&mut memory, &mut free, &mut cache);
-    job(&mut symbols)
-}
-
-fn on_bytes() -> [Result<u16, u16>; 9] {
     let mut bytes = [170u8; 43];
-    let mut row = [0u16; 2];
-    let mut memory = Bytes::new(&mut bytes);
-    let mut free = Ring::new();
-    let mut cache = Pile::new(&mut row);
-    let mut symbols = Symbols::over(&mut memory, &mut free, &mut cache);
-    job(&mut symbols)
-}
-
-fn main(rt: HostRuntime) -> io::Result<()> {
-    let board = on_board();
-    let bytes = on_bytes();
-    let mut alike = 0;
-    for i in 0..9usize {
-        let step = STEPS[i];
-        let agrees = board[i] == bytes[i];
-        match board[i] {
+    let on_board = job(
+        &mut Board::new(&mut records),
+        &mut Pile::new(&mut [0u16; 6]),
+        &mut Ring::new(),
+    );
+    let on_bytes = job(
+        &mut Bytes::new(&mut bytes),
+        &mut Ring::new(),
+        &mut Pile::new(&mut [0u16; 2]),
+    );
+    for ((step, board), bytes) in STEPS.iter().zip(&on_board).zip(&on_bytes) {
+        let agrees = board == bytes;
+        match board {
             Ok(number) => println!(rt; "{step}: ok {number}, alike: {agrees}")?,
-            Err(number) => println!(rt; "{step}: no {number}, alike: {agrees}")?,
-        }
-        if agrees && alike < 9 {
-            alike += 1;
+            Err(refusal) => { println!(rt; "{step}: no {}, alike: {agrees}", u16::from(*refusal))? }
         }
     }
+    let alike = on_board
+        .iter()
+        .zip(&on_bytes)
+        .filter(|(board, bytes)| board == bytes)
+        .count();
     println!(rt;
         "{alike} of 9 answers alike on board memory with pile and ring and on byte memory with ring and pile"
     )

@@ -5,9 +5,9 @@ use Rattle.cellwork.proofs.colours.grey_all.Goals as goal
 
 pub loop-v-preserved : goal.loop-v-preserved
 loop-v-preserved g c =
-    let memory = g.M.CellMemory in
     let held : ℕ → Option ℕ = λ j. get_or c.args.registers j None in
-    let i = c.loop-v.v-index in (
-      c.grey.ensures.after ∙ ap (λ (m : Cells). greyed_if m (held i)) c.loop-v.invariant.0 ∙ ap (λ k. greyed_to k (memory.means c.args.memory.now) held) (sym (add-one i)),
-      c.grey.ensures.rest ∙ c.loop-v.invariant.1,
-    )
+    let i = c.loop-v.v-index in
+    record {
+      after = c.grey.ensures.after ∙ ap (λ (m : Cells). greyed_if m (held i)) c.loop-v.invariant.after ∙ ap (λ k. greyed_to k (g.M.CellMemory.means c.args.memory.now) held) (sym (add-one i));
+      rest = c.grey.ensures.rest ∙ c.loop-v.invariant.rest;
+    }

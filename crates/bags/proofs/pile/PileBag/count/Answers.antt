@@ -3,10 +3,5 @@ use Rattle.std.proofs.Common.{arith}
 use Rattle.bags.specs.Stacks.{pile_count, stacked_length}
 use Rattle.bags.proofs.pile.PileBag.count.Goals as goal
 
-pub returns : goal.returns
-returns c =
-    let s = c.args.self.now in
-    record {
-      members = omega (arith, stacked_length s.row.now (pile_count s.row.now s.len));
-      exact = omega arith;
-    }
+pub returns-clause-members : goal.returns-clause-members
+returns-clause-members c = let s = c.args.self.now in omega (arith, stacked_length s.row.now (pile_count s.row.now s.len))

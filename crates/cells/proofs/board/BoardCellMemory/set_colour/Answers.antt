@@ -4,12 +4,8 @@ use Rattle.std.proofs.lemmas.List.{drop-set-lt}
 use Rattle.cells.proofs.RowLaws.{coloured_after}
 use Rattle.cells.proofs.board.BoardCellMemory.set_colour.Goals as goal
 
-pub returns : goal.returns
-returns c =
-    let rows = c.args.self.now.rows.now in
-    record {
-      answer = search rules;
-      after = coloured_after rows _ c.args.cell c.args.colour (search rules);
-      rest = ap (λ spare. (spare, c.args.self.now.rows.ghost_name)) (drop-set-lt 4097 rows c.args.cell _ (omega arith));
-      exact = search rules;
-    }
+pub returns-clause-after : goal.returns-clause-after
+returns-clause-after c = coloured_after c.args.self.now.rows.now _ c.args.cell c.args.colour (search rules)
+
+pub returns-clause-rest : goal.returns-clause-rest
+returns-clause-rest c = let rows = c.args.self.now.rows in ap (λ spare. (spare, rows.ghost_name)) (drop-set-lt 4097 rows.now _ _ (grind arith))

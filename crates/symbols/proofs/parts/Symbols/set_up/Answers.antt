@@ -25,10 +25,11 @@ returns g c =
     let m = g.M.CellMemory in
     let s = state_of m g.F.Bag g.C.Bag c.args.self.now in
     let d = c.args.d in
+    let control = c.new-self.result in
     let all : c.loop-x.x ≡ s.cells.size = omega arith in
     let begins =
-    ap (accepted 0) (laid_begun s (state_of m g.F.Bag g.C.Bag c.loop-x.self) d c.loop-x.x (tasks_of c.new-self.result) c.at_rest-self.result
-    (m.sound c.args.self.now.memory.now) c.loop-x.invariant.state all c.new-self.ensures c.at_rest-self.ensures)
+    ap (accepted 0) (laid_begun s (state_of m g.F.Bag g.C.Bag c.loop-x.self) d control.directory c.loop-x.x (tasks_of control.tasks) control.collector
+    (m.sound c.args.self.now.memory.now) c.loop-x.invariant.state all c.new-self.ensures.directory c.new-self.ensures.tasks c.new-self.ensures.collector)
     ∙ passed s (set_up_checks d s) (λ _. accepted 0 (begun s d)) tt c.in_ok-check_set_up.ensures in
     record {
       rule = record {
@@ -42,5 +43,5 @@ returns g c =
           cache_spare = c.loop-x.invariant.lent.cache_spare;
         };
       };
-      law = set_up_lawful m g.F.Bag g.C.Bag c.args.self.now d _ (sym begins);
+      law = set_up_lawful m g.met.M.CellMemory.few g.F.Bag g.C.Bag c.args.self.now d _ (sym begins);
     }

@@ -1,9 +1,0 @@
-use Rattle.symbols.proofs.Returning.{returned}
-use Rattle.symbols.specs.Views.{state_of, Becomes}
-use Rattle.symbols.proofs.parts.Symbols.give_back.Given as goal
-
--- so many cells went back to the free list
-abbrev pub invariant-loop-k : goal.invariant-loop-k
-invariant-loop-k g l =
-    let view = state_of g.M.CellMemory g.F.Bag g.C.Bag in
-    Becomes g.M.CellMemory g.F.Bag g.C.Bag (returned (view l.initial.self) l.m l._k) l.initial.self l.self

@@ -1,0 +1,52 @@
+-- What a check that was passed says.
+use Rattle.std.proofs.Common.{◌≡◌, ℕ, Bool, true, false, length, Some, None, Ok, Err, Option, Result, sym, ap, ◌∙◌, ap₂, refl}
+use Rattle.rules.specs.declared.Refusal.{Refusal}
+use Rattle.rules.specs.declared.Refusal.TheVariants.{WorkUnfinished}
+use Rattle.rules.specs.declared.Work.{Work}
+use Rattle.rules.specs.declared.Work.TheVariants.{Change, Making}
+use Rattle.rules.specs.State.{Task, has_slot, need, is_idle, of_idle_task}
+use Rattle.rules.specs.Changes.{carry_on_checks}
+use Rattle.rules.specs.Handshake.{cooperate_checks}
+use Rattle.rules.specs.Pools.{give_back_checks, reserve_checks}
+use Rattle.rules.specs.Makings.{making_in}
+use Rattle.tasks.specs.Parts.{making_of}
+use Rattle.turns.specs.Moves.{reservable_of}
+
+pub told : {A : Type 0} (b : Bool) (e : Refusal) (x y : A) → Ok y ≡ need b e (Ok x) → (b ≡ true) × (y ≡ x)
+told true e x y h = search
+told false e x y h = search
+
+of_work : (u t : Task) → Ok t ≡ need (is_idle u.work) WorkUnfinished (Ok u) → (Some u ≡ Some t) × (is_idle t.work ≡ true)
+of_work u t h = let found = told (is_idle u.work) WorkUnfinished u t h in (ap Some (sym found.1), ap (λ v. is_idle v.work) found.1 ∙ found.0)
+
+pub idle : (o : Option Task) (t : Task) → Ok t ≡ of_idle_task o Ok → (o ≡ Some t) × (is_idle t.work ≡ true)
+idle None t h = search
+idle (Some u) t h = of_work u t h
+
+abbrev what : {A : Type 0} → A → Result A Refusal → A
+what d (Ok x) = x
+what d (Err e) = d
+
+of_making_work : (u t : Task) (w : Option Work) (x : ℕ) (settled : Bool) → ◌≡◌ {A = Result (Task × ℕ × Bool) Refusal} (Ok (t, x, settled)) (making_in w (λ z done. Ok (u, z, done))) → (u ≡ t) × (w ≡ Some (Making x settled))
+of_making_work u t None x settled h = search
+of_making_work u t (Some (Change z i y step)) x settled h = search
+of_making_work u t (Some (Making z done)) x settled h =
+    let same = ap (what (t, x, settled)) h in
+    (ap (λ p. p.0) (sym same), ap₂ (λ c d. Some (Making c d)) (ap (λ p. p.1) (sym same)) (ap (λ p. p.2) (sym same)))
+
+pub making : (o : Option Task) (t : Task) (x : ℕ) (settled : Bool) → Ok (t, x, settled) ≡ making_of o → (o ≡ Some t) × (t.work ≡ Some (Making x settled))
+making None t x settled h = search
+making (Some u) t x settled h = let found = of_making_work u t u.work x settled h in (ap Some found.0, ap (λ v. v.work) (sym found.0) ∙ found.1)
+
+-- a making that is not settled is owed a turn
+pub owed_making : (d : ℕ) (tasks : ℕ → Option Task) (m : ℕ) (t : Task) (x : ℕ) → has_slot d m ≡ true → tasks m ≡ Some t → t.work ≡ Some (Making x false) → Ok (Making x false) ≡ carry_on_checks d tasks m
+owed_making d tasks m t x slot here work = rw (slot, here, work) refl
+
+pub status_found : (d : ℕ) (tasks : ℕ → Option Task) (m : ℕ) (t : Task) → has_slot d m ≡ true → tasks m ≡ Some t → is_idle t.work ≡ true → Ok t.status ≡ cooperate_checks d tasks m
+status_found d tasks m t slot here idle = rw (slot, here, idle) refl
+
+pub pool_told : (d : ℕ) (tasks : ℕ → Option Task) (m : ℕ) (t : Task) → has_slot d m ≡ true → tasks m ≡ Some t → is_idle t.work ≡ true → Ok (length t.pool) ≡ give_back_checks d tasks m
+pool_told d tasks m t slot here idle = rw (slot, here, idle) refl
+
+pub reserve_asked : (d free : ℕ) (tasks : ℕ → Option Task) (m : ℕ) → has_slot d m ≡ true → reservable_of free (tasks m) ≡ reserve_checks d free tasks m
+reserve_asked d free tasks m slot = rw slot refl

@@ -6,8 +6,8 @@ use super::{Bag, BagRefusal};
 
 const SLOTS: usize = 32;
 
-// The `len` members stand from slot `first` on, and slot 0 follows the last one. An array of its own, and no library's buffer:
-// `circular_buffer` lies on the heap, and an `ArrayVec` would move every member at a take.
+// The `len` members stand from slot `first` on, and slot 0 follows the last one. The array is its own: the library's ring buffer lies on
+// the heap, and there is none here.
 #[derive(Drop)]
 pub struct Ring {
     slots: [u16; SLOTS],
@@ -48,6 +48,7 @@ impl Bag for Ring {
     }
 
     fn put(&mut self, x: u16) -> Result<(), BagRefusal> {
+        // Tested and then indexed, as in `Pile`.
         if self.len >= SLOTS {
             return Err(BagRefusal::Full);
         }

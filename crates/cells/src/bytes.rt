@@ -1,4 +1,5 @@
-// A cell memory in a stretch of bytes, two links to a cell: a colour byte, then each link in two bytes, the high one first.
+// A cell memory in a stretch of bytes, two links to a cell: a colour byte, then each link in two bytes, the high one first. It shares its
+// checks with board memory, and nothing else, for the layout is another.
 ghost use Rattle.std.specs.Borrow.{GName};
 ghost use Rattle.std.specs.Prelude.{◌≡◌, ℕ, ◌+◌, ◌<◌, List, length};
 ghost use Rattle.cells.specs.Memory.{colour_taken, link_taken, coloured, linked};

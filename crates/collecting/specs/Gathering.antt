@@ -9,16 +9,16 @@ use Rattle.bags.specs.declared.Bag.{Ghosts as BagGhosts}
 use Rattle.bags.specs.Holding.{Hold}
 use Rattle.rules.specs.declared.Collector.{Collector}
 use Rattle.rules.specs.State.{Task, State, Outcome}
-use Rattle.tasks.specs.Parts.{tasks_of}
+use Rattle.turns.specs.Parts.{state_with}
 use Rattle.turns.specs.declared.parts.Control.{Control}
 use Rattle.rules.specs.Collecting.{looking, scan_from, sweep_from, waits, works}
 
-abbrev pub state_with : Cells → ℕ → Hold → Hold → ℕ → (ℕ → Option Task) → Collector → State
-state_with x l f h d tasks k = record { cells = x; links = l; free = f; cache = h; directory = d; tasks = tasks; collector = k }
+abbrev pub state_of_parts : Cells → ℕ → Hold → Hold → ℕ → (ℕ → Option Task) → Collector → State
+state_of_parts x l f h d tasks k = record { cells = x; links = l; free = f; cache = h; directory = d; tasks = tasks; collector = k }
 
 module _ {M F C : Type 0} (m : MemoryGhosts M) (f : BagGhosts F) (c : BagGhosts C) where
   abbrev pub gathered : M → F → C → Control → State
-  gathered memory free cache control = state_with (m.means memory) m.links (f.means free) (c.means cache) control.directory (tasks_of control.tasks) control.collector
+  gathered memory free cache control = state_with control (m.means memory) m.links (f.means free) (c.means cache)
 
 -- r' is the loan that r was, and what of it no cell and no member uses is as it was
 pub record Kept {A S : Type 0} (unused : A → S) (r r' : MutBor A) : Type 0 where
@@ -31,7 +31,7 @@ nothing = record { members = []; room = 0; manner = record { choice = λ _. 0; a
 
 -- what a rule that changes the collector alone makes of it, with nothing around it
 abbrev pub alone : (State → State) → Collector → Collector
-alone rule k = (rule (state_with (record { size = 0; colour = λ _. White; link = λ _ _. None }) 0 nothing nothing 0 (λ _. None) k)).collector
+alone rule k = (rule (state_of_parts (record { size = 0; colour = λ _. White; link = λ _ _. None }) 0 nothing nothing 0 (λ _. None) k)).collector
 
 -- Below, `told` is what a function tells of the state after it, the state alone or also an answer, and the rule makes that of the
 -- state before it.
@@ -39,7 +39,7 @@ alone rule k = (rule (state_with (record { size = 0; colour = λ _. White; link 
 -- memory, free list and collector are changed by the rule, whatever the other parts are
 module _ {M F : Type 0} (m : MemoryGhosts M) (f : BagGhosts F) where
   pub record Sweeps {A : Type 0} (told rule : State → A) (memory memory' : MutBor M) (free free' : MutBor F) (k k' : MutBor Collector) : Type 0 where
-    pub state : (h : Hold) (d : ℕ) (tasks : ℕ → Option Task) → told (state_with (m.means memory'.now) m.links (f.means free'.now) h d tasks k'.now) ≡ rule (state_with (m.means memory.now) m.links (f.means free.now) h d tasks k.now)
+    pub state : (h : Hold) (d : ℕ) (tasks : ℕ → Option Task) → told (state_of_parts (m.means memory'.now) m.links (f.means free'.now) h d tasks k'.now) ≡ rule (state_of_parts (m.means memory.now) m.links (f.means free.now) h d tasks k.now)
     pub spare : m.spare memory'.now ≡ m.spare memory.now
     pub free_spare : f.spare free'.now ≡ f.spare free.now
 

@@ -20,7 +20,8 @@ mod phases;
 mod scanning;
 mod sweeping;
 
-// One turn, which touches at most one cell. Before the set up, when there is no directory, the collector waits.
+// One turn, which touches at most one cell. Before the set up, when there is no directory, the collector waits. Stage, hand and status are kept
+// from turn to turn, so the turn is a match on them and no closure.
 pub fn collect<M: CellMemory, F: Bag, C: Bag>(
     memory: &mut M,
     free: &mut F,

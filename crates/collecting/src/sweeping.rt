@@ -1,4 +1,5 @@
-// Sweep: what was marked is White again, and what was not is free.
+// Sweep: what was marked is White again, and what was not is free. A step on and a look, as in Scan, but at another place, with other effects
+// and the free list for the cache. Two functions alone take memory, free list and collector, so no struct holds the three.
 ghost use Rattle.std.specs.Prelude.{◌≡◌};
 ghost use Rattle.rules.specs.Collecting.{sweeping, swept as swept_cell};
 ghost use Rattle.rules.specs.State.{accepted};

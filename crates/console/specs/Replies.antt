@@ -6,7 +6,6 @@ use Rattle.cells.specs.declared.MemoryRefusal.{MemoryRefusal}
 use Rattle.cells.specs.Codes.{code_of, memory_refusal_number}
 use Rattle.cells.specs.Memory.{colour_at}
 use Rattle.bags.specs.declared.Bag.{Ghosts as BagGhosts}
-use Rattle.rules.specs.declared.Refusal.{Refusal}
 use Rattle.rules.specs.Refusals.{refusal_number}
 use Rattle.rules.specs.State.{State, Outcome}
 use Rattle.rules.specs.Tasks.{enter, leave, point, move, clear, load}
@@ -16,8 +15,6 @@ use Rattle.script.specs.declared.Request.{Request}
 use Rattle.script.specs.declared.words.Verb.{Verb}
 use Rattle.script.specs.declared.words.Verb.TheVariants.{Enter, Leave, Point, Move, Clear, Load, Reserve, Back, Colour as ColourOf}
 use Rattle.script.specs.Lines.{refusal_number as line_refusal_number}
-use Rattle.console.specs.declared.refused.Refused.{Refused}
-use Rattle.console.specs.Refusals.{number_of}
 use Rattle.symbols.specs.declared.parts.Symbols.{Symbols}
 use Rattle.symbols.specs.Views.{state_of, Same}
 
@@ -26,12 +23,13 @@ pub record Reply : Type 0 where
   pub answer : Result ℕ ℕ
   pub after : State
 
-abbrev pub numbered : Result ℕ Refusal → Result ℕ ℕ
-numbered (Ok k) = Ok k
-numbered (Err e) = Err (refusal_number e)
+-- an answer with its refusal as a number
+abbrev pub numbered : {E : Type 0} → (E → ℕ) → Result ℕ E → Result ℕ ℕ
+numbered number (Ok k) = Ok k
+numbered number (Err e) = Err (number e)
 
 abbrev pub told : Outcome → Reply
-told o = record { answer = numbered o.answer; after = o.after }
+told o = record { answer = numbered refusal_number o.answer; after = o.after }
 
 abbrev pub coloured : Result Colour MemoryRefusal → Result ℕ ℕ
 coloured (Ok x) = Ok (code_of x)
@@ -52,11 +50,6 @@ called ColourOf a b c d s = record { answer = coloured (colour_at s.cells a); af
 abbrev pub reply_to : Result Request LineRefusal → State → Reply
 reply_to (Ok q) s = called q.verb (slice_index q.numbers 0) (slice_index q.numbers 1) (slice_index q.numbers 2) (slice_index q.numbers 3) s
 reply_to (Err e) s = record { answer = Err (line_refusal_number e); after = s }
-
--- an answer with its refusal as a number
-abbrev pub with_number : Result ℕ Refused → Result ℕ ℕ
-with_number (Ok k) = Ok k
-with_number (Err e) = Err (number_of e)
 
 module _ {M F C : Type 0} (m : MemoryGhosts M) (f : BagGhosts F) (c : BagGhosts C) where
   -- a line that took h to h' was answered r

@@ -1,5 +1,6 @@
 // What a line is answered, and what it does to the symbol memory.
-ghost use Rattle.console.specs.Replies.{with_number, Replies};
+ghost use Rattle.console.specs.Refusals.{number_of};
+ghost use Rattle.console.specs.Replies.{numbered, Replies};
 
 use super::refused::Refused;
 use bags::Bag;
@@ -12,19 +13,24 @@ pub fn answer<'a, 'b, 'c, M: CellMemory, F: Bag, C: Bag>(
     symbols: &mut Symbols<'a, 'b, 'c, M, F, C>,
     line: Result<Request, LineRefusal>,
 ) -> Result<u16, Refused>
-    ensures { Replies M.CellMemory F.Bag C.Bag line symbols.old symbols.new (with_number result) }
+    ensures { Replies M.CellMemory F.Bag C.Bag line symbols.old symbols.new (numbered number_of result) }
 {
     let request = line?;
     let [a, b, c, d] = request.numbers;
     let answer = match request.verb {
-        Verb::Enter => symbols.enter(a as usize)?,
-        Verb::Leave => symbols.leave(a as usize)?,
-        Verb::Point => symbols.point(a as usize, b, c as usize)?,
-        Verb::Move => symbols.move_register(a as usize, b as usize, c as usize)?,
-        Verb::Clear => symbols.clear_register(a as usize, b as usize)?,
-        Verb::Load => symbols.load(a as usize, b as usize, c as usize, d as usize)?,
-        Verb::Reserve => symbols.reserve(a as usize)?,
-        Verb::Back => symbols.give_back(a as usize)?,
+        Verb::Enter => symbols.enter(usize::from(a))?,
+        Verb::Leave => symbols.leave(usize::from(a))?,
+        Verb::Point => symbols.point(usize::from(a), b, usize::from(c))?,
+        Verb::Move => symbols.move_register(usize::from(a), usize::from(b), usize::from(c))?,
+        Verb::Clear => symbols.clear_register(usize::from(a), usize::from(b))?,
+        Verb::Load => symbols.load(
+            usize::from(a),
+            usize::from(b),
+            usize::from(c),
+            usize::from(d),
+        )?,
+        Verb::Reserve => symbols.reserve(usize::from(a))?,
+        Verb::Back => symbols.give_back(usize::from(a))?,
         Verb::Colour => u16::from(u8::from(symbols.colour(a)?)),
     };
     Ok(answer)

@@ -1,13 +1,13 @@
 -- From an account of each cell to the third promise: as many members as free cells, and each of these once.
-use Rattle.std.proofs.Common.{◌≡◌, ℕ, zero, suc, ◌+◌, ◌-◌, ◌<◌, ◌≤◌, eqb, ◌⊎◌, length, Option, refl, ap, ◌∙◌, subst, inl, inr, ⊎_elim, arith}
-use Rattle.std.proofs.lemmas.Bool.{cases_eq, cases_lt, cond-true, cond-false, eq-eqb, ne_eqb}
+use Rattle.std.proofs.Common.{◌≡◌, ℕ, zero, suc, ◌+◌, ◌-◌, ◌<◌, ◌≤◌, ◌⊎◌, length, Option, refl, ap, ◌∙◌, subst, inl, inr, ⊎_elim, arith}
+use Rattle.std.proofs.lemmas.Bool.{cases_eq, cases_lt}
 use Rattle.cells.specs.declared.Colour.{Colour}
 use Rattle.cells.specs.declared.Colour.TheVariants.{Blue, White, Grey, Black}
 use Rattle.bags.specs.Holding.{one, copies}
 use Rattle.rules.specs.State.{Task, State}
 use Rattle.rules.specs.Pools.{pool_in}
 use Rattle.rules.specs.Law.{Number, HeldOnce, pooled, copies_pooled}
-use Rattle.rules.proofs.Numbers.{sum_to, number_by_sum, sum_add, sum_one, sum_copies}
+use Rattle.rules.proofs.Numbers.{sum_to, number_by_sum, sum_add, sum_one, sum_copies, sum_none, one_at, one_elsewhere}
 
 -- 1 for a free cell
 abbrev pub blueness : Colour → ℕ
@@ -18,20 +18,16 @@ blueness Black = 0
 
 blue_or_not : (x : Colour) → ((x ≡ Blue) × (blueness x ≡ 1)) ⊎ ((¬ (x ≡ Blue)) × (blueness x ≡ 0))
 blue_or_not Blue = inl (refl, refl)
-blue_or_not White = inr (λ e. let z : ◌≡◌ {A = ℕ} 0 1 = cc in omega arith, refl)
-blue_or_not Grey = inr (λ e. let z : ◌≡◌ {A = ℕ} 0 1 = cc in omega arith, refl)
-blue_or_not Black = inr (λ e. let z : ◌≡◌ {A = ℕ} 0 1 = cc in omega arith, refl)
+blue_or_not White = inr (λ e. cc, refl)
+blue_or_not Grey = inr (λ e. cc, refl)
+blue_or_not Black = inr (λ e. cc, refl)
 
 -- free list and pools hold a free cell once, and no other cell
 abbrev pub Account : State → Type 0
 Account s = (c : ℕ) → copies s.free.members c + copies_pooled 8 s.tasks c ≡ blueness (s.cells.colour c)
 
 pub sum_pooled : (n k : ℕ) (tasks : ℕ → Option Task) → ((c : ℕ) → 0 < copies_pooled k tasks c → c < n) → sum_to n (copies_pooled k tasks) ≡ pooled k tasks
-sum_pooled n zero tasks h = none n
-  where
-    none : (j : ℕ) → sum_to j (λ c. 0) ≡ 0
-    none zero = refl
-    none (suc j) = let before = none j in omega arith
+sum_pooled n zero tasks h = sum_none n
 sum_pooled n (suc k) tasks h =
     let here = sum_copies n (pool_in (tasks k)) (λ c l. h c (omega arith)) in
     let others = sum_pooled n k tasks (λ c l. h c (omega arith)) in
@@ -83,8 +79,11 @@ blueness_most White = omega arith
 blueness_most Grey = omega arith
 blueness_most Black = omega arith
 
-not_blue : (x : Colour) → ¬ (x ≡ Blue) → blueness x ≡ 0
+pub not_blue : (x : Colour) → ¬ (x ≡ Blue) → blueness x ≡ 0
 not_blue x n = ⊎_elim (λ y. absurd (n y.0)) (λ z. z.1) (blue_or_not x)
+
+pub is_blue : (x : Colour) → 0 < blueness x → x ≡ Blue
+is_blue x l = ⊎_elim (λ y. y.0) (λ z. absurd (omega (arith, z.1))) (blue_or_not x)
 
 -- the free list with a pool has no more members than there are cells outside the directory, of which none is free
 pub members_fit : (s : State) → Account s → ((c : ℕ) → s.cells.size ≤ c → s.cells.colour c ≡ White) → ((c : ℕ) → c < s.directory → ¬ (s.cells.colour c ≡ Blue))
@@ -109,11 +108,11 @@ one_more_fits s account outside used k far near free =
   where
     at_most_one : (c : ℕ) → one k c + (copies s.free.members c + copies_pooled 8 s.tasks c) ≤ 1
     at_most_one c = ⊎_elim
-        (λ (q : c ≡ k). let none = account c ∙ ap (λ j. blueness (s.cells.colour j)) q ∙ not_blue (s.cells.colour k) free in let here : one k c ≡ 1 = cond-true (eqb c k) 1 0 (eq-eqb c k q) in omega arith)
-        (λ (n : c ≡ k → ⊥). let here : one k c ≡ 0 = cond-false (eqb c k) 1 0 (ne_eqb c k n) in omega (arith, account c, blueness_most (s.cells.colour c)))
+        (λ (q : c ≡ k). let none = account c ∙ ap (λ j. blueness (s.cells.colour j)) q ∙ not_blue (s.cells.colour k) free in let here = one_at k c q in omega arith)
+        (λ (n : c ≡ k → ⊥). let here = one_elsewhere k c n in omega (arith, account c, blueness_most (s.cells.colour c)))
         (cases_eq c k)
 
     none_in_directory : (c : ℕ) → c < s.directory → one k c + (copies s.free.members c + copies_pooled 8 s.tasks c) ≡ 0
     none_in_directory c l =
-        let here : one k c ≡ 0 = cond-false (eqb c k) 1 0 (ne_eqb c k (λ q. omega arith)) in
+        let here = one_elsewhere k c (λ q. omega arith) in
         omega (arith, account c ∙ not_blue (s.cells.colour c) (used c l))

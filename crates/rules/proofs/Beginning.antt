@@ -41,7 +41,7 @@ begun_by b s d e = go (set_up_checks d b) refl e
     go (Ok tt) c f = (sym (ap (λ (o : Outcome). o.after) f), fits_checked b d c)
     go (Err x) c f =
         let g : ◌≡◌ {A = Result ℕ Refusal} (Err x) (Ok 0) = ap (λ (o : Outcome). o.answer) f in
-        let z : ◌≡◌ {A = ℕ} 0 1 = cc in absurd (omega arith)
+        cc
 
 -- a free list that was empty, with k numbers put from d on
 module _ (h : Hold) (sound : SoundBag h) (empty : length h.members ≡ 0) (d : ℕ) where
@@ -86,18 +86,18 @@ blank_colour n d c = elim (leb d c && ltb c n) as (λ b. (cond b Blue White ≡ 
 
 module _ (b : State) (d : ℕ) (fit : Fits b d) (memory : SoundMemory b.links b.cells) (links : 1 ≤ b.links) (free : SoundBag b.free) (cache : SoundBag b.cache) where
   no_tasks : {A : Type 0} {t : Task} → None ≡ Some t → A
-  no_tasks e = let z : ◌≡◌ {A = ℕ} 0 1 = cc in absurd (omega arith)
+  no_tasks e = cc
 
   no_links : {A : Type 0} {c : ℕ} → None ≡ Some c → A
-  no_links e = let z : ◌≡◌ {A = ℕ} 0 1 = cc in absurd (omega arith)
+  no_links e = cc
 
   nothing_made : {x : ℕ} → ¬ (Made (begun b d) x)
   nothing_made (made_by m settled p q) = no_tasks p
 
   not_shaded : (x : ℕ) → ¬ (Shaded (begun b d) x)
   not_shaded x e = ⊎_elim
-      (λ (q : (blank b.cells.size d).colour x ≡ Blue). let f : false ≡ true = sym (ap is_shaded q) ∙ e in let z : ◌≡◌ {A = ℕ} 0 1 = cc in omega arith)
-      (λ (q : (blank b.cells.size d).colour x ≡ White). let f : false ≡ true = sym (ap is_shaded q) ∙ e in let z : ◌≡◌ {A = ℕ} 0 1 = cc in omega arith)
+      (λ (q : (blank b.cells.size d).colour x ≡ Blue). let f : false ≡ true = sym (ap is_shaded q) ∙ e in cc)
+      (λ (q : (blank b.cells.size d).colour x ≡ White). let f : false ≡ true = sym (ap is_shaded q) ∙ e in cc)
       (blank_colour b.cells.size d x)
 
   not_black : (x : ℕ) → (blank b.cells.size d).colour x ≢ Black
@@ -166,7 +166,7 @@ module _ (b : State) (d : ℕ) (fit : Fits b d) (memory : SoundMemory b.links b.
           places = in_rest;
           nothing_traced = λ n k. nothing_traced;
           statuses = λ m t p. no_tasks p;
-          scan_looked = λ e u k q. let z : ◌≡◌ {A = ℕ} 0 1 = cc in absurd (omega arith);
+          scan_looked = λ e u k q. cc;
         };
         works = record {
           cell_held = λ m x i y step t p q. no_tasks p;
@@ -180,7 +180,7 @@ module _ (b : State) (d : ℕ) (fit : Fits b d) (memory : SoundMemory b.links b.
         safe = λ c u.
             let near = used_begun c u in
             let white : (blank b.cells.size d).colour c ≡ White = grind (arith, nat_tests) in
-            (omega (arith, fit.within), λ blue. let z : ◌≡◌ {A = ℕ} 0 1 = cc in omega arith, nothing_made);
+            (omega (arith, fit.within), λ blue. cc, nothing_made);
         new_cells = record {
           unsettled = λ m x t p q n. no_tasks p;
           settled = λ m x t p q n. no_tasks p;
@@ -189,23 +189,23 @@ module _ (b : State) (d : ℕ) (fit : Fits b d) (memory : SoundMemory b.links b.
         };
         sweeps = record {
           cached = λ c l. absurd (no_member c l);
-          in_hand = λ h e. let z : ◌≡◌ {A = ℕ} 0 1 = cc in absurd (omega arith);
+          in_hand = λ h e. cc;
           rest_black = λ e x q. absurd (not_black x q);
           clear_black = λ e x q. absurd (not_black x q);
           behind = λ e x w q. absurd (not_black x q);
-          ahead_used = λ e x u q. let z : ◌≡◌ {A = ℕ} 0 1 = cc in absurd (omega arith);
+          ahead_used = λ e x u q. cc;
           ahead_made = λ e x k q. absurd (nothing_made k);
           new_value = λ m x i c t p q n. no_tasks p;
-          directory = λ e c l h. let z : ◌≡◌ {A = ℕ} 0 1 = cc in absurd (omega arith);
+          directory = λ e c l h. cc;
         };
-        first_half = λ h. let e = h.0 in let z : ◌≡◌ {A = ℕ} 0 1 = cc in absurd (omega arith);
+        first_half = λ h. let e = h.0 in cc;
         Cut = λ x i. false;
         second_half = rests;
       }
     where
       rests : SecondHalf (begun b d) → MarksSecond (begun b d) (λ x i. false)
-      rests (mark e n) = let z : ◌≡◌ {A = ℕ} 0 1 = cc in absurd (omega arith)
-      rests (scan e) = let z : ◌≡◌ {A = ℕ} 0 1 = cc in absurd (omega arith)
+      rests (mark e n) = cc
+      rests (scan e) = cc
 
 -- of a memory just set up
 pub just_begun : (s : State) → JustSetUp s → Invariant s

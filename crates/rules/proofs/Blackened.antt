@@ -1,7 +1,7 @@
 -- What blackening does to the colours, the cache and dirty, in the four ways it can go.
 use Rattle.std.proofs.Common.{◌≡◌, ℕ, ◌+◌, ◌<◌, Bool, true, false, eqb, ltb, ◌≢◌, ◌⊎◌, Some, None, Option, sym, refl, ap, ◌∙◌, subst, inl, inr, ⊎_elim, arith}
 use Rattle.std.proofs.lemmas.Bool.Decides.{nat_tests}
-use Rattle.std.proofs.lemmas.Bool.{cases_eq, cases_Bool, cond-true, cond-false, eq-eqb, ne_eqb, lt-ltb}
+use Rattle.std.proofs.lemmas.Bool.{cases_eq, cases_Bool, cond-true, cond-false, eq-eqb, lt-ltb}
 use Rattle.cells.specs.declared.Colour.{Colour}
 use Rattle.cells.specs.declared.Colour.TheVariants.{Blue, White, Grey, Black}
 use Rattle.cells.specs.Memory.{at, coloured, recoloured}
@@ -12,6 +12,9 @@ use Rattle.rules.specs.Changes.{with_dirty}
 use Rattle.rules.specs.Collecting.{overflowed, blacken_if}
 use Rattle.rules.proofs.Words.{is_shaded}
 use Rattle.rules.proofs.Marking.{turned}
+use Rattle.std.proofs.lemmas.Option.{same_Some}
+use Rattle.rules.proofs.Slots.{at_other}
+use Rattle.rules.proofs.Numbers.{one_at, one_elsewhere}
 
 -- of nothing; of a cell that is Black; with a place in the cache; with none
 pub data Blackened (s : State) : Option ℕ → (ℕ → Colour) → Hold → Bool → Type 0 where
@@ -21,14 +24,14 @@ pub data Blackened (s : State) : Option ℕ → (ℕ → Colour) → Hold → Bo
   overflows : {v : ℕ} → s.cells.colour v ≢ Black → has_room s.cache ≡ false
       → Blackened s (Some v) (at v Grey s.cells.colour) s.cache (overflowed v s.collector.scanned s.collector.dirty)
 
-is_black_lem : (x : Colour) → is_black x ≡ true → x ≡ Black
+pub is_black_lem : (x : Colour) → is_black x ≡ true → x ≡ Black
 is_black_lem Black e = refl
-is_black_lem Blue e = let z : ◌≡◌ {A = ℕ} 0 1 = cc in absurd (omega arith)
-is_black_lem White e = let z : ◌≡◌ {A = ℕ} 0 1 = cc in absurd (omega arith)
-is_black_lem Grey e = let z : ◌≡◌ {A = ℕ} 0 1 = cc in absurd (omega arith)
+is_black_lem Blue e = cc
+is_black_lem White e = cc
+is_black_lem Grey e = cc
 
 is_not_black : (x : Colour) → is_black x ≡ false → x ≢ Black
-is_not_black x e b = let z : ◌≡◌ {A = ℕ} 0 1 = cc in omega arith
+is_not_black x e b = cc
 
 -- what holds of every way holds of the blackening by its rule
 pub blackened_by_rule : (P : State → Type 0) (s : State) (o : Option ℕ) → ((v : ℕ) → o ≡ Some v → v < s.cells.size)
@@ -52,12 +55,6 @@ blackened_by_rule P s (Some v) inside f = ⊎_elim
 at_here : {A : Type 0} (i : ℕ) (x : A) (f : ℕ → A) (k : ℕ) → k ≡ i → at i x f k ≡ x
 at_here i x f k e = cond-true (eqb k i) x (f k) (eq-eqb k i e)
 
-at_elsewhere : {A : Type 0} (i : ℕ) (x : A) (f : ℕ → A) (k : ℕ) → (k ≡ i → ⊥) → at i x f k ≡ f k
-at_elsewhere i x f k n = cond-false (eqb k i) x (f k) (ne_eqb k i n)
-
-some_same : {a b : ℕ} → ◌≡◌ {A = Option ℕ} (Some a) (Some b) → a ≡ b
-some_same e = cc
-
 put_there : (h : Hold) (v : ℕ) → has_room h ≡ true → put_into h v ≡ holding h (h.manner.added h.members v)
 put_there h v r = cond-true (has_room h) _ _ r
 
@@ -71,33 +68,33 @@ blackened_shaded nothing c = inl refl
 blackened_shaded (stays b) c = inl refl
 blackened_shaded {s} (joins {v} n r) c = ⊎_elim
     (λ (e : c ≡ v). inr (ap Some (sym e), ap is_shaded (at_here v Black s.cells.colour c e)))
-    (λ (d : c ≡ v → ⊥). inl (at_elsewhere v Black s.cells.colour c d))
+    (λ (d : c ≡ v → ⊥). inl (at_other v Black s.cells.colour c d))
     (cases_eq c v)
 blackened_shaded {s} (overflows {v} n r) c = ⊎_elim
     (λ (e : c ≡ v). inr (ap Some (sym e), ap is_shaded (at_here v Grey s.cells.colour c e)))
-    (λ (d : c ≡ v → ⊥). inl (at_elsewhere v Grey s.cells.colour c d))
+    (λ (d : c ≡ v → ⊥). inl (at_other v Grey s.cells.colour c d))
     (cases_eq c v)
 
 -- the blackened cell is shaded in any case
 pub blackened_is_shaded : {s : State} {o : Option ℕ} {colour : ℕ → Colour} {cache : Hold} {unclean : Bool} → Blackened s o colour cache unclean
     → (c : ℕ) → o ≡ Some c → is_shaded (colour c) ≡ true
-blackened_is_shaded nothing c e = let z : ◌≡◌ {A = ℕ} 0 1 = cc in absurd (omega arith)
-blackened_is_shaded {s} (stays {v} b) c e = ap (λ x. is_shaded (s.cells.colour x)) (sym (some_same e)) ∙ ap is_shaded b
-blackened_is_shaded {s} (joins {v} n r) c e = ap is_shaded (at_here v Black s.cells.colour c (sym (some_same e)))
-blackened_is_shaded {s} (overflows {v} n r) c e = ap is_shaded (at_here v Grey s.cells.colour c (sym (some_same e)))
+blackened_is_shaded nothing c e = cc
+blackened_is_shaded {s} (stays {v} b) c e = ap (λ x. is_shaded (s.cells.colour x)) (sym (same_Some _ _ e)) ∙ ap is_shaded b
+blackened_is_shaded {s} (joins {v} n r) c e = ap is_shaded (at_here v Black s.cells.colour c (sym (same_Some _ _ e)))
+blackened_is_shaded {s} (overflows {v} n r) c e = ap is_shaded (at_here v Grey s.cells.colour c (sym (same_Some _ _ e)))
 
 -- a cell that was not Black is Black and in the cache, or Grey for want of a place there
 pub blackened_found : {s : State} {o : Option ℕ} {colour : ℕ → Colour} {cache : Hold} {unclean : Bool} → Blackened s o colour cache unclean → Fair s.cache.manner
     → (c : ℕ) → o ≡ Some c → s.cells.colour c ≢ Black
     → (0 < copies cache.members c) ⊎ ((colour c ≡ Grey) × (has_room s.cache ≡ false) × (unclean ≡ overflowed c s.collector.scanned s.collector.dirty))
-blackened_found nothing fair c e d = let z : ◌≡◌ {A = ℕ} 0 1 = cc in absurd (omega arith)
-blackened_found {s} (stays b) fair c e d = absurd (d (ap s.cells.colour (sym (some_same e)) ∙ b))
+blackened_found nothing fair c e d = cc
+blackened_found {s} (stays b) fair c e d = absurd (d (ap s.cells.colour (sym (same_Some _ _ e)) ∙ b))
 blackened_found {s} (joins {v} n r) fair c e d =
     let now = put_copies s.cache v c fair r in
-    let here : one v c ≡ 1 = cond-true (eqb c v) 1 0 (eq-eqb c v (sym (some_same e))) in
+    let here = one_at v c (sym (same_Some _ _ e)) in
     inl (omega arith)
 blackened_found {s} (overflows {v} n r) fair c e d =
-    inr (at_here v Grey s.cells.colour c (sym (some_same e)), r, ap (λ x. overflowed x s.collector.scanned s.collector.dirty) (some_same e))
+    inr (at_here v Grey s.cells.colour c (sym (same_Some _ _ e)), r, ap (λ x. overflowed x s.collector.scanned s.collector.dirty) (same_Some _ _ e))
 
 -- what was in the cache still is, and else only the blackened cell is, which is Black
 pub blackened_caches : {s : State} {o : Option ℕ} {colour : ℕ → Colour} {cache : Hold} {unclean : Bool} → Blackened s o colour cache unclean → Fair s.cache.manner
@@ -113,7 +110,7 @@ blackened_cached nothing fair c l = inl l
 blackened_cached (stays b) fair c l = inl l
 blackened_cached {s} (joins {v} n r) fair c l = ⊎_elim
     (λ (e : c ≡ v). inr (ap Some (sym e)))
-    (λ (d : c ≡ v → ⊥). inl (let now = put_copies s.cache v c fair r in let none : one v c ≡ 0 = cond-false (eqb c v) 1 0 (ne_eqb c v d) in omega arith))
+    (λ (d : c ≡ v → ⊥). inl (let now = put_copies s.cache v c fair r in let none = one_elsewhere v c d in omega arith))
     (cases_eq c v)
 blackened_cached (overflows n r) fair c l = inl l
 
@@ -130,12 +127,12 @@ pub blackened_black : {s : State} {o : Option ℕ} {colour : ℕ → Colour} {ca
 blackened_black nothing fair c b n = b
 blackened_black (stays d) fair c b n = b
 blackened_black {s} (joins {v} d r) fair c b n = ⊎_elim
-    (λ (e : c ≡ v). absurd (n (let now = put_copies s.cache v c fair r in let here : one v c ≡ 1 = cond-true (eqb c v) 1 0 (eq-eqb c v e) in omega arith)))
-    (λ (e : c ≡ v → ⊥). sym (at_elsewhere v Black s.cells.colour c e) ∙ b)
+    (λ (e : c ≡ v). absurd (n (let now = put_copies s.cache v c fair r in let here = one_at v c e in omega arith)))
+    (λ (e : c ≡ v → ⊥). sym (at_other v Black s.cells.colour c e) ∙ b)
     (cases_eq c v)
 blackened_black {s} (overflows {v} d r) fair c b n = ⊎_elim
-    (λ (e : c ≡ v). let grey = at_here v Grey s.cells.colour c e in let z : ◌≡◌ {A = ℕ} 0 1 = cc in absurd (omega arith))
-    (λ (e : c ≡ v → ⊥). sym (at_elsewhere v Grey s.cells.colour c e) ∙ b)
+    (λ (e : c ≡ v). let grey = at_here v Grey s.cells.colour c e in cc)
+    (λ (e : c ≡ v → ⊥). sym (at_other v Grey s.cells.colour c e) ∙ b)
     (cases_eq c v)
 
 -- dirty stays yes, and becomes yes for a cell behind the scan

@@ -17,19 +17,14 @@ use Rattle.rules.proofs.Touched.{in_hand_or_not}
 use Rattle.rules.proofs.Marking.{turned, WorksIn, shaded_on, kept_on}
 use Rattle.rules.proofs.GoingOn.{going, goes_on_kept}
 use Rattle.rules.proofs.Blackened.{Blackened, blackened_shaded, blackened_is_shaded, blackened_found, blackened_caches, blackened_cached, blackened_manner, blackened_black, blackened_dirty, overflowed_behind}
-
-pub scanned_same : {a b : ℕ} → ◌≡◌ {A = Option ℕ} (Some a) (Some b) → a ≡ b
-scanned_same e = cc
+use Rattle.std.proofs.lemmas.Option.{same_Some}
 
 is_it : (o : Option ℕ) (c : ℕ) → (o ≡ Some c) ⊎ (¬ (o ≡ Some c))
-is_it None c = inr (λ e. let z : ◌≡◌ {A = ℕ} 0 1 = cc in omega arith)
+is_it None c = inr (λ e. cc)
 is_it (Some v) c = ⊎_elim
     (λ (e : v ≡ c). inl (ap Some e))
-    (λ (n : v ≡ c → ⊥). inr (λ e. n (some_same e)))
+    (λ (n : v ≡ c → ⊥). inr (λ e. n (same_Some _ _ e)))
     (cases_eq v c)
-  where
-    some_same : {a b : ℕ} → ◌≡◌ {A = Option ℕ} (Some a) (Some b) → a ≡ b
-    some_same e = cc
 
 module _ (s : State) (I : Invariant s) (o : Option ℕ) (colour' : ℕ → Colour) (cache' : Hold) (dirty' : Bool) (b : Blackened s o colour' cache' dirty')
     (next' : ℕ) (looked' : Bool) (hand' : Option Hand) where
@@ -71,7 +66,7 @@ module _ (s : State) (I : Invariant s) (o : Option ℕ) (colour' : ℕ → Colou
     -- a cache without a place is not empty, so there is something to trace
     full_busy : has_room s.cache ≡ false → Busy s
     full_busy f = in_cache (⊎_elim
-        (λ (l : length s.cache.members < s.cache.room). let t = lt-ltb (length s.cache.members) s.cache.room l in let z : ◌≡◌ {A = ℕ} 0 1 = cc in absurd (omega arith))
+        (λ (l : length s.cache.members < s.cache.room). let t = lt-ltb (length s.cache.members) s.cache.room l in cc)
         (λ (l : s.cache.room ≤ length s.cache.members). omega (arith, I.structure.cache_room))
         (cases_lt (length s.cache.members) s.cache.room))
 
@@ -96,10 +91,10 @@ module _ (s : State) (I : Invariant s) (o : Option ℕ) (colour' : ℕ → Colou
         (blackened_found b fair c e n)
 
     grey_not_black : (c : ℕ) → s.cells.colour c ≡ Grey → s.cells.colour c ≢ Black
-    grey_not_black c e q = let z : ◌≡◌ {A = ℕ} 0 1 = cc in omega arith
+    grey_not_black c e q = cc
 
     mark_not_scan : {A : Type 0} → s.collector.stage ≡ Mark → s.collector.stage ≡ Scan → A
-    mark_not_scan e q = let z : ◌≡◌ {A = ℕ} 0 1 = cc in absurd (omega arith)
+    mark_not_scan e q = cc
 
     pending_on : (c : ℕ) → Pending s c → Pending s' c
     pending_on c (cached l) = cached (blackened_caches b fair c l)
@@ -112,11 +107,11 @@ module _ (s : State) (I : Invariant s) (o : Option ℕ) (colour' : ℕ → Colou
         (λ i. ⊎_elim (λ j. absurd (i j)) (λ p. in_directory e p h (λ q. n (sym (same_elsewhere c i) ∙ q))) (g.next_left e c l h))
         (is_it o c)
     pending_on c (ahead {k} e p l was_kept q) = ⊎_elim
-        (λ (h : o ≡ Some c). found c h (grey_not_black c q) (λ a. let same : k ≡ c = scanned_same (sym p ∙ a.1) in omega arith))
+        (λ (h : o ≡ Some c). found c h (grey_not_black c q) (λ a. let same : k ≡ c = same_Some _ _ (sym p ∙ a.1) in omega arith))
         (λ n. ahead e p l (keep_on was_kept) (same_elsewhere c n ∙ q))
         (is_it o c)
     pending_on c (at_scan e p l k q) = ⊎_elim
-        (λ (h : o ≡ Some c). found c h (grey_not_black c q) (λ a. let seen = (I.control.scan_looked e a.2 c p).1 in let z : ◌≡◌ {A = ℕ} 0 1 = cc in omega arith))
+        (λ (h : o ≡ Some c). found c h (grey_not_black c q) (λ a. let seen = (I.control.scan_looked e a.2 c p).1 in cc))
         (λ n. ⊎_elim (λ i. absurd (n i)) (λ r. at_scan e p r (keep_on k) (same_elsewhere c n ∙ q)) (g.looked_left e c p q l))
         (is_it o c)
     pending_on c (dirty e p k q) = ⊎_elim

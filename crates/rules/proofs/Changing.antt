@@ -1,8 +1,7 @@
 -- The turn that begins a change of a link keeps the invariant.
-use Rattle.std.proofs.Common.{◌≡◌, ℕ, ◌<◌, Bool, true, false, cond, ltb, ◌≢◌, ◌⊎◌, Some, None, Ok, Err, Option, Result, sym, refl, ap, ◌∙◌, subst, inl, inr, arith}
+use Rattle.std.proofs.Common.{◌≡◌, ℕ, ◌<◌, Bool, true, false, cond, ltb, ◌≢◌, ◌⊎◌, Some, None, Option, sym, refl, ap, ◌∙◌, subst, inl, inr}
 use Rattle.std.proofs.lemmas.Bool.{ltb-true}
-use Rattle.cells.specs.declared.Colour.{Colour}
-use Rattle.cells.specs.declared.Colour.TheVariants.{Blue, White, Grey, Black}
+use Rattle.cells.specs.declared.Colour.TheVariants.{Black}
 use Rattle.cells.specs.Memory.{Cells}
 use Rattle.rules.specs.declared.Status.{Status}
 use Rattle.rules.specs.declared.Status.TheVariants.{Async, Sync1, Sync2}
@@ -11,13 +10,11 @@ use Rattle.rules.specs.declared.Swept.TheVariants.{Before, At, Past}
 use Rattle.rules.specs.declared.Step.{Step}
 use Rattle.rules.specs.declared.Step.TheVariants.{Grey as GreyStep, Warn, Store}
 use Rattle.rules.specs.declared.Work.TheVariants.{Change, Making}
-use Rattle.rules.specs.declared.Refusal.{Refusal}
-use Rattle.rules.specs.declared.Refusal.TheVariants.{RegisterEmpty}
 use Rattle.rules.specs.State.{Task, State, with_cells, with_task, with_work, in_slot, has_slot, is_register}
 use Rattle.rules.specs.Greying.{is_black, greyed_if}
-use Rattle.rules.specs.Changes.{changed_cell, change_checks, first_step, greyed_old, status_in, changing, change}
+use Rattle.rules.specs.Changes.{change_checks, first_step, greyed_old, status_in, changing, change}
 use Rattle.rules.specs.Reach.{start, along}
-use Rattle.rules.proofs.Checked.{need_passed, idle_passed, ok_same, is_idle_lem}
+use Rattle.rules.proofs.Checked.{need_passed, idle_passed, is_idle_lem, changed_is}
 use Rattle.rules.proofs.TaskTurns.{kept_by}
 use Rattle.rules.proofs.Words.{Shaded, Used, register, SecondHalf, Pending, grey_in_mark}
 use Rattle.rules.proofs.Invariant.{Invariant}
@@ -26,6 +23,7 @@ use Rattle.rules.proofs.Halves.{unswept, second_in_mark}
 use Rattle.rules.proofs.Shading.{greyed_if_table, greyed_if_shades, greyed_if_turn}
 use Rattle.rules.proofs.Retasked.{ChangeFits, retasked_turn}
 use Rattle.rules.proofs.Stepping.{shaded_grey}
+use Rattle.rules.proofs.Blackened.{is_black_lem}
 
 -- why a change begins at that step
 data Begins (q : Status) (m : Cells) (swept : Swept) (old : Option ℕ) : Step → Type 0 where
@@ -33,18 +31,12 @@ data Begins (q : Status) (m : Cells) (swept : Swept) (old : Option ℕ) : Step �
   at_warn : {o : ℕ} → q ≡ Async → old ≡ Some o → Begins q m swept old (Warn o)
   at_store : q ≡ Async → (swept ≡ Before → (c : ℕ) → old ≡ Some c → m.colour c ≡ Black) → Begins q m swept old Store
 
-is_black_lem : (k : Colour) → is_black k ≡ true → k ≡ Black
-is_black_lem Blue e = let z : ◌≡◌ {A = ℕ} 0 1 = cc in absurd (omega arith)
-is_black_lem White e = let z : ◌≡◌ {A = ℕ} 0 1 = cc in absurd (omega arith)
-is_black_lem Grey e = let z : ◌≡◌ {A = ℕ} 0 1 = cc in absurd (omega arith)
-is_black_lem Black e = refl
-
 begins : (q : Status) (m : Cells) (swept : Swept) (old : Option ℕ) → Begins q m swept old (first_step q m swept old)
-begins Sync1 m swept old = at_grey (λ e. let z : ◌≡◌ {A = ℕ} 0 1 = cc in omega arith)
-begins Sync2 m swept old = at_grey (λ e. let z : ◌≡◌ {A = ℕ} 0 1 = cc in omega arith)
-begins Async m swept None = at_store refl (λ b c e. let z : ◌≡◌ {A = ℕ} 0 1 = cc in absurd (omega arith))
-begins Async m (At k) (Some o) = at_store refl (λ b. let z : ◌≡◌ {A = ℕ} 0 1 = cc in absurd (omega arith))
-begins Async m Past (Some o) = at_store refl (λ b. let z : ◌≡◌ {A = ℕ} 0 1 = cc in absurd (omega arith))
+begins Sync1 m swept old = at_grey (λ e. cc)
+begins Sync2 m swept old = at_grey (λ e. cc)
+begins Async m swept None = at_store refl (λ b c e. cc)
+begins Async m (At k) (Some o) = at_store refl (λ b. cc)
+begins Async m Past (Some o) = at_store refl (λ b. cc)
 begins Async m Before (Some o) = by (is_black (m.colour o)) refl
   where
     by : (b : Bool) → is_black (m.colour o) ≡ b → Begins Async m Before (Some o) (cond b Store (Warn o))
@@ -54,7 +46,7 @@ begins Async m Before (Some o) = by (is_black (m.colour o)) refl
 module _ (s : State) (I : Invariant s) (m : ℕ) (t : Task) (present : s.tasks m ≡ Some t) (idle : t.work ≡ None) (x i a b : ℕ) (y : Option ℕ)
     (cell : t.registers a ≡ Some x) (value : t.registers b ≡ y) (there : i < s.links) where
   no_making : (k : ℕ) (settled : Bool) → t.work ≡ Some (Making k settled) → ⊥
-  no_making k settled e = let z : ◌≡◌ {A = ℕ} 0 1 = cc in omega arith
+  no_making k settled e = cc
 
   used_old : (c : ℕ) → s.cells.link x i ≡ Some c → Used s c
   used_old c e = along (start (register m a present cell)) (i, e)
@@ -68,8 +60,8 @@ module _ (s : State) (I : Invariant s) (m : ℕ) (t : Task) (present : s.tasks m
         value_held = λ c e. (b, value ∙ e);
         link_there = there;
         grey_step = λ e. late;
-        warn_step = λ o e. let z : ◌≡◌ {A = ℕ} 0 1 = cc in absurd (omega arith);
-        new_value = λ e. let z : ◌≡◌ {A = ℕ} 0 1 = cc in absurd (omega arith);
+        warn_step = λ o e. cc;
+        new_value = λ e. cc;
         changed_link = λ h g c e. shaded c (as_it_was c e);
         sync_cut = λ h g. cut.1;
         store_cut = λ h e. cut.1;
@@ -103,12 +95,12 @@ module _ (s : State) (I : Invariant s) (m : ℕ) (t : Task) (present : s.tasks m
         cell_held = (a, cell);
         value_held = λ c e. (b, value ∙ e);
         link_there = there;
-        grey_step = λ e. let z : ◌≡◌ {A = ℕ} 0 1 = cc in absurd (omega arith);
+        grey_step = λ e. cc;
         warn_step = λ o e. prompt;
-        new_value = λ e. let z : ◌≡◌ {A = ℕ} 0 1 = cc in absurd (omega arith);
-        changed_link = λ h g. let z : ◌≡◌ {A = ℕ} 0 1 = cc in absurd (omega arith);
-        sync_cut = λ h g. let z : ◌≡◌ {A = ℕ} 0 1 = cc in absurd (omega arith);
-        store_cut = λ h e. let z : ◌≡◌ {A = ℕ} 0 1 = cc in absurd (omega arith);
+        new_value = λ e. cc;
+        changed_link = λ h g. cc;
+        sync_cut = λ h g. cc;
+        store_cut = λ h e. cc;
         warn_cut = λ h o e. let same : old ≡ o = cc in subst (λ k. (J.Cut x i ≡ true) ⊎ ((s₁.cells.link x i ≡ Some k) × Shaded s₁ k)) same (inr (still, shaded));
       } in
       retasked_turn s₁ J m t present no_making t.status (Some (Change x i y (Warn old)))
@@ -137,10 +129,10 @@ module _ (s : State) (I : Invariant s) (m : ℕ) (t : Task) (present : s.tasks m
         cell_held = (a, cell);
         value_held = λ c e. (b, value ∙ e);
         link_there = there;
-        grey_step = λ e. let z : ◌≡◌ {A = ℕ} 0 1 = cc in absurd (omega arith);
+        grey_step = λ e. cc;
         warn_step = λ o e. prompt;
         new_value = λ e n. absurd (n prompt);
-        changed_link = λ h g. let z : ◌≡◌ {A = ℕ} 0 1 = cc in absurd (omega arith);
+        changed_link = λ h g. cc;
         sync_cut = λ h g. cut.1;
         store_cut = λ h e. cut.1;
         warn_cut = λ h o e. inl cut.1;
@@ -162,10 +154,6 @@ module _ (s : State) (I : Invariant s) (m : ℕ) (t : Task) (present : s.tasks m
       result o =
           let step = first_step (status_in o) s.cells s.collector.swept (s.cells.link x i) in
           with_cells (with_task s m (in_slot (λ u. with_work u (Some (Change x i y step))) o)) (greyed_old step s.cells (s.cells.link x i))
-
-changed_is : (o y : Option ℕ) (f : ℕ × Option ℕ) → Ok f ≡ changed_cell o y → (o ≡ Some f.0) × (y ≡ f.1)
-changed_is None y f e = let g : ◌≡◌ {A = Result (ℕ × Option ℕ) Refusal} (Ok f) (Err RegisterEmpty) = e in let z : ◌≡◌ {A = ℕ} 0 1 = cc in absurd (omega arith)
-changed_is (Some x) y f e = let same = ok_same e in (ap (λ (p : ℕ × Option ℕ). Some p.0) (sym same), ap (λ (p : ℕ × Option ℕ). p.1) (sym same))
 
 pub change_kept : (s : State) → Invariant s → (m a i b : ℕ) → Invariant (change m a i b s).after
 change_kept s I m a i b = kept_by s (change_checks s.directory s.links s.tasks m a i b) _ I (λ f e.

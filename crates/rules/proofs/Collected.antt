@@ -20,6 +20,7 @@ use Rattle.rules.proofs.Checked.{ok_same}
 use Rattle.rules.proofs.Painted.{Paints, unpainted, coloured_paints, coloured_here, painted_in}
 use Rattle.rules.proofs.Words.{is_shaded, PassedBy, behind, looked_at, Passed}
 use Rattle.rules.proofs.Invariant.{Invariant}
+use Rattle.rules.proofs.Places.{at_same}
 
 -- cells that the marking may come to next: in reach, named by the cell in hand, or Grey already
 pub data Traced (s : State) (c : ℕ) : Type 0 where
@@ -73,18 +74,15 @@ traced_only : (s : State) (v : ℕ) {s' : State} → Traced s v → Keeps (λ c.
 traced_only s v t k = record { tasks = k.tasks; directory = k.directory; cells = painted_in (Traced s) (λ c e. subst (Traced s) (sym e) t) k.cells }
 
 is_grey_lem : (x : Colour) → is_grey x ≡ true → x ≡ Grey
-is_grey_lem Blue e = let z : ◌≡◌ {A = ℕ} 0 1 = cc in absurd (omega arith)
-is_grey_lem White e = let z : ◌≡◌ {A = ℕ} 0 1 = cc in absurd (omega arith)
+is_grey_lem Blue e = cc
+is_grey_lem White e = cc
 is_grey_lem Grey e = refl
-is_grey_lem Black e = let z : ◌≡◌ {A = ℕ} 0 1 = cc in absurd (omega arith)
-
-at_same : {a b : ℕ} → ◌≡◌ {A = Swept} (At a) (At b) → a ≡ b
-at_same e = cc
+is_grey_lem Black e = cc
 
 -- the sweep, at cell k and not looking yet, is past those below k
 passed_below : (co : Collector) (k : ℕ) → co.swept ≡ At k → co.looked ≡ false → (c : ℕ) → PassedBy co c → c < k
 passed_below co k e l c (behind f h) = let same = at_same (sym f ∙ e) in omega arith
-passed_below co k e l c (looked_at f h) = let z : ◌≡◌ {A = ℕ} 0 1 = cc in absurd (omega arith)
+passed_below co k e l c (looked_at f h) = cc
 
 module _ (s : State) where
   -- outside Sweep, a turn that stays there and touches no cell
@@ -108,12 +106,12 @@ module _ (s : State) where
 
   cleared : s.collector.stage ≡ Clear → Collected s (clearing s)
   cleared g = cond_both (all_agree s) _ _ (Collected s)
-      (λ _. idles 1 (omega arith) _ (λ e. let z : ◌≡◌ {A = ℕ} 0 1 = cc in omega arith))
-      (λ _. idles 0 (omega arith) _ (λ e. let z : ◌≡◌ {A = ℕ} 0 1 = cc in omega arith))
+      (λ _. idles 1 (omega arith) _ (λ e. cc))
+      (λ _. idles 0 (omega arith) _ (λ e. cc))
 
   marked : s.collector.stage ≡ Mark → Collected s (marking s)
   marked g =
-      let off : s.collector.stage ≢ Sweep = λ e. let z : ◌≡◌ {A = ℕ} 0 1 = cc in omega arith in
+      let off : s.collector.stage ≢ Sweep = λ e. cc in
       cond_both (not (same_status s.collector.phase s.collector.status) && all_agree s) _ _ (Collected s)
       (λ _. idles 1 (omega arith) _ off)
       (λ _. traces off _ (cond_both (ltb s.collector.next s.directory) _ _ (Collected s)
@@ -121,22 +119,22 @@ module _ (s : State) where
       let k = traced_only s s.collector.next (reached (start (directory (ltb-true _ _ l)))) b.keeps in
       marks (not_two 1 (omega arith)) (λ q. off (sym b.stage ∙ q)) (record { tasks = k.tasks; directory = k.directory; cells = k.cells }))
       (λ _. cond_both (same_status s.collector.phase Async) _ _ (Collected s)
-      (λ _. idles 1 (omega arith) _ (λ e. let z : ◌≡◌ {A = ℕ} 0 1 = cc in omega arith))
+      (λ _. idles 1 (omega arith) _ (λ e. cc))
       (λ _. idles 0 (omega arith) _ off))))
 
   scanned : s.collector.stage ≡ Scan → (p : Option ℕ) → Collected s (scanning s p)
-  scanned g None = idles 0 (omega arith) _ (λ e. let z : ◌≡◌ {A = ℕ} 0 1 = cc in omega arith)
+  scanned g None = idles 0 (omega arith) _ (λ e. cc)
   scanned g (Some k) =
-      let off : s.collector.stage ≢ Sweep = λ e. let z : ◌≡◌ {A = ℕ} 0 1 = cc in omega arith in
+      let off : s.collector.stage ≢ Sweep = λ e. cc in
       traces off _ (cond_both (ltb k s.cells.size) _ _ (Collected s)
       (λ _. cond_both s.collector.looked _ _ (Collected s)
-      (λ _. idles 1 (omega arith) _ (λ e. let z : ◌≡◌ {A = ℕ} 0 1 = cc in omega arith))
+      (λ _. idles 1 (omega arith) _ (λ e. cc))
       (λ _. let looked = cond_both (is_grey (s.cells.colour k)) (blacken s k) s (λ (s' : State). (s'.collector.stage ≡ s.collector.stage) × Keeps (Traced s) s s')
       (λ e. let b = blackens s k in (b.stage, traced_only s k (grey (is_grey_lem _ e)) b.keeps))
       (λ _. (refl, kept _ s s.collector)) in
       marks (not_two 1 (omega arith)) (λ q. off (sym looked.0 ∙ q)) (record { tasks = looked.1.tasks; directory = looked.1.directory; cells = looked.1.cells })))
       (λ _. cond_both s.collector.dirty _ _ (Collected s)
-      (λ _. idles 1 (omega arith) _ (λ e. let z : ◌≡◌ {A = ℕ} 0 1 = cc in omega arith))
+      (λ _. idles 1 (omega arith) _ (λ e. cc))
       (λ _. moves (not_two 1 (omega arith)) (kept _ s _) (λ c p. absurd (let none = passed_below _ 0 refl refl c p in omega arith)))))
 
   -- but for the cell at the sweep, those that it is past are the same once it has looked
@@ -165,16 +163,16 @@ module _ (s : State) where
 
   module _ (I : Invariant s) where
     sweeps : s.collector.stage ≡ Sweep → (p : Swept) → s.collector.swept ≡ p → Collected s (sweeping s p)
-    sweeps g Before e = let at = I.control.places.sweep_place g in let f = at.1.0 in let z : ◌≡◌ {A = ℕ} 0 1 = cc in absurd (omega arith)
+    sweeps g Before e = let at = I.control.places.sweep_place g in let f = at.1.0 in cc
     sweeps g (At k) e = cond_both s.collector.looked _ _ (Collected s)
         (λ l. let past : (c : ℕ) → c < k + 1 → Passed s c = λ c h. ⊎_elim (λ (q : c ≡ k). looked_at (e ∙ ap At (sym q)) l) (λ (n : c ≡ k → ⊥). behind e (omega arith)) (cases_eq c k) in
         cond_both (ltb (k + 1) s.cells.size) _ _ (Collected s)
         (λ _. moves (not_two 1 (omega arith)) (kept _ s _) (λ c p. (g, past c (passed_below _ (k + 1) refl refl c p))))
         (λ h. let all = ltb-false (k + 1) s.cells.size h in
-        returns g (λ c i. past c (omega arith)) (λ q. let z : ◌≡◌ {A = ℕ} 0 1 = cc in omega arith) (kept _ s _)))
+        returns g (λ c i. past c (omega arith)) (λ q. cc) (kept _ s _)))
         (λ _. let at = I.control.places.sweep_place g in let same = at_same (sym at.1.0 ∙ e) in let inside = at.1.1 in
         looks (not_two 1 (omega arith)) g k (swept_looks k e (omega arith) (s.cells.colour k) refl))
-    sweeps g Past e = let at = I.control.places.sweep_place g in let f = at.1.0 in let z : ◌≡◌ {A = ℕ} 0 1 = cc in absurd (omega arith)
+    sweeps g Past e = let at = I.control.places.sweep_place g in let f = at.1.0 in cc
 
     pub collected : Collected s (collect s)
     collected = cond_both (eqb s.directory 0) _ _ (Collected s)
@@ -182,7 +180,7 @@ module _ (s : State) where
         (λ _. at_stage s.collector.stage refl)
       where
         at_stage : (g : Stage) → s.collector.stage ≡ g → Collected s (by_stage s g)
-        at_stage Rest e = idles 1 (omega arith) _ (λ e. let z : ◌≡◌ {A = ℕ} 0 1 = cc in omega arith)
+        at_stage Rest e = idles 1 (omega arith) _ (λ e. cc)
         at_stage Clear e = cleared e
         at_stage Mark e = marked e
         at_stage Scan e = scanned e s.collector.scanned

@@ -1,5 +1,5 @@
 -- One more field may count as cut where what it names is Black or a start of the marking: the same cells are marked.
-use Rattle.std.proofs.Common.{◌≡◌, ℕ, Bool, true, false, ◌&&◌, ◌||◌, eqb, ◌≢◌, ◌⊎◌, Some, sym, refl, ap, ◌∙◌, subst, inl, inr, ⊎_elim, arith}
+use Rattle.std.proofs.Common.{◌≡◌, ℕ, Bool, true, false, ◌&&◌, ◌||◌, eqb, ◌≢◌, ◌⊎◌, Some, sym, refl, ap, ◌∙◌, subst, inl, inr, ⊎_elim}
 use Rattle.std.proofs.lemmas.Bool.{cases_Bool, and_parts, and_from, or_cases, or_parts, or_left, or_right, eqb-true, eq-eqb}
 use Rattle.cells.specs.declared.Colour.TheVariants.{Blue, Black}
 use Rattle.rules.specs.State.{State}
@@ -51,7 +51,7 @@ module _ (s : State) (I : Invariant s) (x i : ℕ) (used : Used s x)
         let same : I.Cut a w.link ≡ I.Cut x i = ap (λ k. I.Cut k w.link) here.0 ∙ ap (I.Cut x) here.1 in
         let names : s.cells.link a w.link ≡ s.cells.link x i = ap (λ k. s.cells.link k w.link) here.0 ∙ ap (s.cells.link x) here.1 in
         inr (starts half c (sym same ∙ w.uncut) (sym names ∙ w.names) w.not_black))
-        (λ (was : I.Cut a w.link ≡ true). let e = w.uncut in let z : ◌≡◌ {A = ℕ} 0 1 = cc in absurd (omega arith))
+        (λ (was : I.Cut a w.link ≡ true). let e = w.uncut in cc)
         (cut_back a w.link cut))
         (λ (uncut : Cut' a w.link ≡ false). inl uncut)
         (cases_Bool (Cut' a w.link))

@@ -1,5 +1,5 @@
 -- What the collector's turn leaves of the watched cells: White where the first sweep is past, and free where the second is.
-use Rattle.std.proofs.Common.{◌≡◌, ℕ, ◌<◌, true, ◌≢◌, ◌⊎◌, Some, Ok, Option, sym, ap, ◌∙◌, subst, inl, ⊎_elim, arith}
+use Rattle.std.proofs.Common.{◌≡◌, ℕ, ◌<◌, true, ◌≢◌, ◌⊎◌, Some, Ok, Option, sym, ap, ◌∙◌, subst, inl, ⊎_elim}
 use Rattle.std.proofs.lemmas.Bool.{cases_eq, cases_lt}
 use Rattle.cells.specs.declared.Colour.{Colour}
 use Rattle.cells.specs.declared.Colour.TheVariants.{Blue, White}
@@ -10,18 +10,16 @@ use Rattle.rules.proofs.Invariant.{Invariant}
 use Rattle.rules.proofs.Moments.{reach_not_free}
 use Rattle.rules.proofs.Watching.{roots_of, Watched, Left, Leads, BeforeFirst, BeforeSecond}
 use Rattle.rules.proofs.Collected.{Traced, reached, followed, grey, Keeps, Looks, Collected, marks, moves, looks, returns}
-
-shaded_not_blue : (x : Colour) → is_shaded x ≡ true → x ≢ Blue
-shaded_not_blue x e b = let f = sym (ap is_shaded b) ∙ e in let z : ◌≡◌ {A = ℕ} 0 1 = cc in omega arith
+use Rattle.rules.proofs.Marking.{shaded_not_blue}
 
 shaded_not_white : (x : Colour) → is_shaded x ≡ true → x ≢ White
-shaded_not_white x e b = let f = sym (ap is_shaded b) ∙ e in let z : ◌≡◌ {A = ℕ} 0 1 = cc in omega arith
+shaded_not_white x e b = let f = sym (ap is_shaded b) ∙ e in cc
 
 module _ (s : State) (I : Invariant s) where
   traced_not_blue : (c : ℕ) → Traced s c → s.cells.colour c ≢ Blue
   traced_not_blue c (reached r) = reach_not_free s I c r
   traced_not_blue c (followed h e q) = (I.safe c (along (start (kept (I.sweeps.in_hand h e).0)) (h.link, q))).1
-  traced_not_blue c (grey e) = λ b. let z : ◌≡◌ {A = ℕ} 0 1 = cc in omega arith
+  traced_not_blue c (grey e) = λ b. cc
 
   -- a turn that paints no free cell, and touches nothing else, leads nowhere new
   kept_leads : {P : ℕ → Type 0} {s' : State} → Keeps P s s' → ((c : ℕ) → P c → s'.cells.colour c ≢ Blue → s.cells.colour c ≢ Blue) → Leads s s'
@@ -47,7 +45,7 @@ module _ (s : State) (I : Invariant s) where
     traced_unwatched S c (followed h e q) z =
         let shaded = (I.sweeps.in_hand h e).0.0 in
         shaded_not_white _ shaded (S.white h.cell (W.named_within h.cell h.link c z (shaded_not_blue _ shaded) q))
-    traced_unwatched S c (grey e) z = let w = S.white c z in let z : ◌≡◌ {A = ℕ} 0 1 = cc in omega arith
+    traced_unwatched S c (grey e) z = let w = S.white c z in cc
 
     module _ (o : Outcome) where
       unpainted_same : Keeps (λ c. ⊥) s o.after → (c : ℕ) → o.after.cells.colour c ≡ s.cells.colour c

@@ -1,7 +1,7 @@
 -- A turn of the collector that stays in Mark or Scan, at its place there, keeps the invariant; taking a cell from the cache into the
 -- hand is one.
-use Rattle.std.proofs.Common.{◌≡◌, ℕ, ◌+◌, ◌<◌, Bool, true, eqb, ◌⊎◌, length, Some, None, Option, sym, refl, ap, ◌∙◌, subst, inl, inr, ⊎_elim, arith}
-use Rattle.std.proofs.lemmas.Bool.{cases_eq, cond-true, cond-false, ne_eqb, ltb-true}
+use Rattle.std.proofs.Common.{◌≡◌, ℕ, ◌+◌, ◌<◌, Bool, true, ◌⊎◌, length, Some, None, Option, sym, refl, ap, ◌∙◌, subst, inl, inr, ⊎_elim, arith}
+use Rattle.std.proofs.lemmas.Bool.{cases_eq, cond-true, ltb-true}
 use Rattle.cells.specs.declared.Colour.{Colour}
 use Rattle.cells.specs.declared.Colour.TheVariants.{Black}
 use Rattle.bags.specs.Holding.{Hold, one, copies, has_member, holding, taken_from}
@@ -15,6 +15,8 @@ use Rattle.rules.proofs.Ways.{reached_have}
 use Rattle.rules.proofs.Words.{Shaded, Kept, Busy, in_cache, InHand, ahead_of, Pending, cached, grey_in_mark, in_directory, ahead, at_scan, dirty, Follows, TracedRoot, pending, by_hand, Traced, Marked, FirstHalf, SecondHalf, mark, scan}
 use Rattle.rules.proofs.Invariant.{Control, Invariant}
 use Rattle.rules.proofs.Marking.{turned, WorksIn, Shades, shaded_on, marking_turn, second_goes_on}
+use Rattle.rules.proofs.Touched.{no_hand}
+use Rattle.rules.proofs.Numbers.{one_elsewhere}
 
 -- the collector at the same place of the same stage
 abbrev pub going : Collector → Bool → ℕ → Bool → Option Hand → Collector
@@ -91,11 +93,8 @@ module _ (s : State) (I : Invariant s) (was : WorksIn s.collector.stage) (free-h
   left_or_chosen : (c : ℕ) → 0 < copies s.cache.members c → (c ≡ chosen) ⊎ (0 < copies cache'.members c)
   left_or_chosen c l = ⊎_elim
       (λ (e : c ≡ chosen). inl e)
-      (λ (n : c ≡ chosen → ⊥). inr (let all = copies_left c in let none : one chosen c ≡ 0 = cond-false (eqb c chosen) 1 0 (ne_eqb c chosen n) in omega arith))
+      (λ (n : c ≡ chosen → ⊥). inr (let all = copies_left c in let none = one_elsewhere chosen c n in omega arith))
       (cases_eq c chosen)
-
-  no_hand : {x i : ℕ} → ¬ (InHand s x i)
-  no_hand (ahead_of e l) = let z : ◌≡◌ {A = ℕ} 0 1 = cc in omega arith
 
   abbrev follows_on : (x c : ℕ) → Follows s I.Cut x c → Follows taken I.Cut x c
   follows_on x c f = record { link = f.link; names = f.names; uncut = f.uncut; not_black = f.not_black; not_at_scan = λ a. f.not_at_scan (a.0, a.1, busy) }
@@ -113,7 +112,7 @@ module _ (s : State) (I : Invariant s) (was : WorksIn s.collector.stage) (free-h
 
       roots : (c : ℕ) → TracedRoot s I.Cut c → Traced taken I.Cut c ⊎ (c ≡ chosen)
       roots c (pending p) = pending_on c p
-      roots c (by_hand x f h) = absurd (no_hand h)
+      roots c (by_hand x f h) = absurd (no_hand free-hand h)
 
       edges : (x c : ℕ) → Follows s I.Cut x c → Traced taken I.Cut x ⊎ (x ≡ chosen) → Traced taken I.Cut c ⊎ (c ≡ chosen)
       edges x c f (inl t) = inl (along t (follows_on x c f))
@@ -137,6 +136,6 @@ module _ (s : State) (I : Invariant s) (was : WorksIn s.collector.stage) (free-h
         (λ (q : x ≡ chosen). a (ahead_of (ap (λ y. Some (record { cell = y; link = 0 })) (sym q)) (omega arith)))
         (λ m. n m)
         (left_or_chosen x l))
-        no_hand e;
+        (λ a. no_hand free-hand a) e;
     traced_on = λ h c t. ⊎_elim (λ u. inr u) (λ (e : c ≡ chosen). inl (subst (Kept s) (sym e) chosen_kept)) (traced_or_chosen c t);
   })

@@ -18,10 +18,16 @@ abbrev pub painted : Cells → (ℕ → Colour) → Cells
 painted m f = record { size = m.size; colour = f; link = m.link }
 
 pub black_or_not : (x : Colour) → (x ≡ Black) ⊎ (x ≢ Black)
-black_or_not Blue = inr (λ e. let z : ◌≡◌ {A = ℕ} 0 1 = cc in omega arith)
-black_or_not White = inr (λ e. let z : ◌≡◌ {A = ℕ} 0 1 = cc in omega arith)
-black_or_not Grey = inr (λ e. let z : ◌≡◌ {A = ℕ} 0 1 = cc in omega arith)
+black_or_not Blue = inr (λ e. cc)
+black_or_not White = inr (λ e. cc)
+black_or_not Grey = inr (λ e. cc)
 black_or_not Black = inl refl
+
+pub shaded_colour : (x : Colour) → is_shaded x ≡ true → (x ≡ Grey) ⊎ (x ≡ Black)
+shaded_colour Grey e = inl refl
+shaded_colour Black e = inr refl
+shaded_colour Blue e = cc
+shaded_colour White e = cc
 
 -- as it was, or Grey where it was White
 pub data Greys (Why : Type 0) (old new : Colour) : Type 0 where
@@ -40,7 +46,7 @@ module _ {Why : Type 0} {old new : Colour} where
   -- Blue, White and Black do not come newly, and none of Blue, Grey and Black goes
   pub greys_blue : Greys Why old new → new ≡ Blue → old ≡ Blue
   greys_blue (as_before e) b = sym e ∙ b
-  greys_blue (greys w g y) b = let z : ◌≡◌ {A = ℕ} 0 1 = cc in absurd (omega arith)
+  greys_blue (greys w g y) b = cc
 
   pub greys_white : Greys Why old new → new ≡ White → old ≡ White
   greys_white (as_before e) b = sym e ∙ b
@@ -48,11 +54,7 @@ module _ {Why : Type 0} {old new : Colour} where
 
   pub greys_black : Greys Why old new → new ≡ Black → old ≡ Black
   greys_black (as_before e) b = sym e ∙ b
-  greys_black (greys w g y) b = let z : ◌≡◌ {A = ℕ} 0 1 = cc in absurd (omega arith)
-
-  pub black_stays : Greys Why old new → old ≡ Black → new ≡ Black
-  black_stays (as_before e) b = e ∙ b
-  black_stays (greys w g y) b = let z : ◌≡◌ {A = ℕ} 0 1 = cc in absurd (omega arith)
+  greys_black (greys w g y) b = cc
 
   pub grey_stays : Greys Why old new → old ≡ Grey → new ≡ Grey
   grey_stays (as_before e) b = e ∙ b
@@ -166,7 +168,7 @@ module _ (s : State) (I : Invariant s) (f : ℕ → Colour) (Why : ℕ → Type 
             (λ (cut : I.Cut x i ≡ true). mark_on I.Cut ((I.second_half half).cut_names x i c cut e))
             (λ (uncut : I.Cut x i ≡ false). ⊎_elim
             (λ (b : f c ≡ Black). inl (ap is_shaded b, (I.safe c (along u (i, e))).2))
-            (λ (n : f c ≢ Black). inr (along t (record { link = i; names = e; uncut = uncut; not_black = n; not_at_scan = λ a. let h = a.0 in let z : ◌≡◌ {A = ℕ} 0 1 = cc in omega arith })))
+            (λ (n : f c ≢ Black). inr (along t (record { link = i; names = e; uncut = uncut; not_black = n; not_at_scan = λ a. let h = a.0 in cc })))
             (black_or_not (f c)))
             (cases_Bool (I.Cut x i))
 
@@ -198,7 +200,7 @@ module _ (s : State) (I : Invariant s) (f : ℕ → Colour) (Why : ℕ → Type 
       }
     where
       was_kept : (x : ℕ) → Kept s' x → f x ≡ Black → Kept s x
-      was_kept x k b = ⊎_elim (λ (h : Kept s x). h) (λ (y : Why x × (f x ≡ Grey)). let g = y.1 in let z : ◌≡◌ {A = ℕ} 0 1 = cc in absurd (omega arith)) (keep_back x k)
+      was_kept x k b = ⊎_elim (λ (h : Kept s x). h) (λ (y : Why x × (f x ≡ Grey)). let g = y.1 in cc) (keep_back x k)
 
   still_structure : Structure s'
   still_structure =

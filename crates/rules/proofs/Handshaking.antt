@@ -1,6 +1,6 @@
 -- The collector's turns in Rest and Clear keep the invariant.
-use Rattle.std.proofs.Common.{◌≡◌, ℕ, zero, suc, ◌<◌, ◌≤◌, true, false, ◌≢◌, Some, Option, sym, refl, ap, ◌∙◌, subst, inl, inr, ⊎_elim, arith}
-use Rattle.std.proofs.lemmas.Bool.{cases_eq, cases_lt, cases_Bool, cond-true, cond-false, and_parts}
+use Rattle.std.proofs.Common.{◌≡◌, ℕ, zero, suc, ◌<◌, true, false, ◌≢◌, Some, Option, sym, refl, ap, ◌∙◌, subst, inl, inr, ⊎_elim, arith}
+use Rattle.std.proofs.lemmas.Bool.{cases_eq, cases_Bool, cond-true, cond-false, and_parts}
 use Rattle.bags.specs.Holding.{Hold}
 use Rattle.rules.specs.declared.Status.{Status}
 use Rattle.rules.specs.declared.Status.TheVariants.{Sync1, Sync2}
@@ -13,6 +13,7 @@ use Rattle.rules.proofs.TaskTurns.{same_status_lem}
 use Rattle.rules.proofs.Words.{made_by, Traces, in_hand, in_cache, SecondHalfOf, mark, scan}
 use Rattle.rules.proofs.Places.{placed, in_clear, in_mark}
 use Rattle.rules.proofs.Invariant.{Structure, Control, Works, Sweeps, MarksSecond, Invariant}
+use Rattle.rules.proofs.Slots.{slot_below}
 
 -- what does not look at the collector
 pub structure_same : (s : State) (co : Collector) → Structure s → Structure (with_collector s co)
@@ -79,32 +80,29 @@ agree_each (suc k) q tasks e m l t p = ⊎_elim
 
 -- every present task agrees
 pub all_agree_lem : (s : State) → Invariant s → all_agree s ≡ true → (m : ℕ) (t : Task) → s.tasks m ≡ Some t → t.status ≡ s.collector.status
-all_agree_lem s I e m t p = ⊎_elim
-    (λ (l : m < 8). agree_each 8 s.collector.status s.tasks e m l t p)
-    (λ (g : 8 ≤ m). let vacant = I.structure.slots m g in let z : ◌≡◌ {A = ℕ} 0 1 = cc in absurd (omega arith))
-    (cases_lt m 8)
+all_agree_lem s I e m t p = agree_each 8 s.collector.status s.tasks e m (slot_below I.structure.slots m t p) t p
 
 pub rest_kept : (s : State) → Invariant s → s.collector.stage ≡ Rest → Invariant (rest s).after
 rest_kept s I g =
     let K = I.control in
     let at = K.places.rest g in
-    quiet_turn s I _ (λ e. let z : ◌≡◌ {A = ℕ} 0 1 = cc in omega arith) (λ e. let z : ◌≡◌ {A = ℕ} 0 1 = cc in omega arith)
+    quiet_turn s I _ (λ e. cc) (λ e. cc)
     (record {
-      places = placed refl refl at.1 at.2 (K.places.unscanned (λ e. let z : ◌≡◌ {A = ℕ} 0 1 = cc in omega arith)) in_clear;
-      nothing_traced = λ n k u. K.nothing_traced (λ e. let z : ◌≡◌ {A = ℕ} 0 1 = cc in omega arith) (λ e. let z : ◌≡◌ {A = ℕ} 0 1 = cc in omega arith) (traces_same refl u);
+      places = placed refl refl at.1 at.2 (K.places.unscanned (λ e. cc)) in_clear;
+      nothing_traced = λ n k u. K.nothing_traced (λ e. cc) (λ e. cc) (traces_same refl u);
       statuses = λ m t p. inr (⊎_elim (λ e. e ∙ at.0 ∙ sym at.1) (λ e. e) (K.statuses m t p));
-      scan_looked = λ e u k q. let z : ◌≡◌ {A = ℕ} 0 1 = cc in absurd (omega arith);
+      scan_looked = λ e u k q. cc;
     })
     (record {
       cached = I.sweeps.cached;
       in_hand = I.sweeps.in_hand;
-      rest_black = λ e. let z : ◌≡◌ {A = ℕ} 0 1 = cc in absurd (omega arith);
+      rest_black = λ e. cc;
       clear_black = λ e. I.sweeps.rest_black g;
-      behind = λ e. let z : ◌≡◌ {A = ℕ} 0 1 = cc in absurd (omega arith);
-      ahead_used = λ e. let z : ◌≡◌ {A = ℕ} 0 1 = cc in absurd (omega arith);
-      ahead_made = λ e. let z : ◌≡◌ {A = ℕ} 0 1 = cc in absurd (omega arith);
+      behind = λ e. cc;
+      ahead_used = λ e. cc;
+      ahead_made = λ e. cc;
       new_value = I.sweeps.new_value;
-      directory = λ e. let z : ◌≡◌ {A = ℕ} 0 1 = cc in absurd (omega arith);
+      directory = λ e. cc;
     })
 
 -- marking begins, once every task has seen the collector leave Rest
@@ -118,33 +116,33 @@ began_marking s I g agree =
     record {
       structure = structure_same s _ I.structure;
       control = record {
-        places = placed refl refl refl refl (K.places.unscanned (λ e. let z : ◌≡◌ {A = ℕ} 0 1 = cc in omega arith)) (in_mark (inl (refl, refl)));
+        places = placed refl refl refl refl (K.places.unscanned (λ e. cc)) (in_mark (inl (refl, refl)));
         nothing_traced = λ n k u. n refl;
         statuses = λ m t p. inr (all_agree_lem s I agree m t p ∙ at.0);
-        scan_looked = λ e u k q. let z : ◌≡◌ {A = ℕ} 0 1 = cc in absurd (omega arith);
+        scan_looked = λ e u k q. cc;
       };
       works = works_same s _ I.works;
       safe = I.safe;
       new_cells = record {
         unsettled = I.new_cells.unsettled;
         settled = I.new_cells.settled;
-        in_mark = λ m x a t p q e h. let is = all_agree_lem s I agree m t p ∙ at.0 in let z : ◌≡◌ {A = ℕ} 0 1 = cc in absurd (omega arith);
-        in_scan = λ m x a t p q e h. let z : ◌≡◌ {A = ℕ} 0 1 = cc in absurd (omega arith);
+        in_mark = λ m x a t p q e h. let is = all_agree_lem s I agree m t p ∙ at.0 in cc;
+        in_scan = λ m x a t p q e h. cc;
       };
       sweeps = record {
         cached = I.sweeps.cached;
         in_hand = I.sweeps.in_hand;
-        rest_black = λ e. let z : ◌≡◌ {A = ℕ} 0 1 = cc in absurd (omega arith);
-        clear_black = λ e. let z : ◌≡◌ {A = ℕ} 0 1 = cc in absurd (omega arith);
-        behind = λ e. let z : ◌≡◌ {A = ℕ} 0 1 = cc in absurd (omega arith);
-        ahead_used = λ e. let z : ◌≡◌ {A = ℕ} 0 1 = cc in absurd (omega arith);
-        ahead_made = λ e. let z : ◌≡◌ {A = ℕ} 0 1 = cc in absurd (omega arith);
+        rest_black = λ e. cc;
+        clear_black = λ e. cc;
+        behind = λ e. cc;
+        ahead_used = λ e. cc;
+        ahead_made = λ e. cc;
         new_value = I.sweeps.new_value;
         directory = λ e c l h. absurd (omega arith);
       };
       first_half = λ h. record {
         black_to_shaded = λ x i c k b n a e. let made = I.sweeps.clear_black g x b in absurd (k.1 (made_by made.0 false made.1.1.0 made.1.1.1));
-        changed_link = λ m x i c y step t p q h e. let is = all_agree_lem s I agree m t p ∙ at.0 in let z : ◌≡◌ {A = ℕ} 0 1 = cc in absurd (omega arith);
+        changed_link = λ m x i c y step t p q h e. let is = all_agree_lem s I agree m t p ∙ at.0 in cc;
       };
       Cut = I.Cut;
       second_half = none;
@@ -152,7 +150,7 @@ began_marking s I g agree =
   where
     none : SecondHalfOf (marks s).collector → MarksSecond (marks s) I.Cut
     none (mark e n) = absurd (n refl)
-    none (scan e) = let z : ◌≡◌ {A = ℕ} 0 1 = cc in absurd (omega arith)
+    none (scan e) = cc
 
 pub clearing_kept : (s : State) → Invariant s → s.collector.stage ≡ Clear → Invariant (clearing s).after
 clearing_kept s I g = ⊎_elim

@@ -29,7 +29,7 @@ module _ (s : State) (I : Invariant s) (m : ℕ) (within : m < 8) (o : Option Ta
     (h : Hold) (manner : h.manner ≡ s.free.manner) (room : h.room ≡ s.free.room)
     (together : (c : ℕ) → copies h.members c + copies (pool_in o) c ≡ copies s.free.members c + copies (pool_in (s.tasks m)) c) where
   no_work : {A : Type 0} {w : Work} (t : Task) → t.work ≡ None → t.work ≡ Some w → A
-  no_work t p q = let z : ◌≡◌ {A = ℕ} 0 1 = cc in absurd (omega arith)
+  no_work t p q = cc
 
   -- a task with work is another task, and was there
   abbrev working : Type 0

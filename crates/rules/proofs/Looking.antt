@@ -12,13 +12,16 @@ use Rattle.rules.specs.State.{State, Task, with_cells, with_free}
 use Rattle.rules.specs.Law.{copies_pooled}
 use Rattle.rules.specs.Reach.{start, along}
 use Rattle.rules.specs.Collecting.{with_looked, swept}
-use Rattle.rules.proofs.States.{at_as_it_was}
+use Rattle.rules.proofs.States.{at_as_it_was, at_here}
 use Rattle.rules.proofs.Ways.{lead_into}
 use Rattle.rules.proofs.Accounts.{blueness, one_more_fits}
 use Rattle.rules.proofs.Words.{Made, is_shaded, Shaded, Used, UsedRoot, directory, register, kept, filled, Busy, in_hand, in_cache, PassedBy, behind, looked_at, Passed, SecondHalf, mark, scan}
 use Rattle.rules.proofs.Invariant.{Structure, Control, MarksSecond, Invariant}
 use Rattle.rules.proofs.Handshaking.{traces_same}
-use Rattle.rules.proofs.SweepingOn.{at_same}
+use Rattle.rules.proofs.Places.{at_same}
+use Rattle.rules.proofs.Halves.{all_async}
+use Rattle.rules.proofs.Slots.{at_other}
+use Rattle.rules.proofs.Numbers.{one_at, one_elsewhere}
 
 some_member : (xs : List ℕ) (c : ℕ) → 0 < copies xs c → 0 < length xs
 some_member [] c l = l
@@ -36,13 +39,11 @@ module _ (s : State) (I : Invariant s) (e : s.collector.stage ≡ Sweep) (k : �
       subst (λ j. j < s.cells.size) same there.1.1
 
   at_async : (m : ℕ) (t : Task) → s.tasks m ≡ Some t → t.status ≡ Async
-  at_async m t p =
-      let a = I.control.places.sweep e in
-      ⊎_elim (λ (r : t.status ≡ s.collector.status). r ∙ a.0) (λ (r : t.status ≡ s.collector.phase). r ∙ a.1) (I.control.statuses m t p)
+  at_async m t p = let a = I.control.places.sweep e in all_async s I m t p a.0 a.1
 
   not_passed : ¬ (Passed s k)
   not_passed (behind q l) = let same = at_same (sym q ∙ place) in omega arith
-  not_passed (looked_at q l) = let z : ◌≡◌ {A = ℕ} 0 1 = cc in omega arith
+  not_passed (looked_at q l) = cc
 
   -- what a colour at k that is not shaded leaves to be shown
   module _ (x : Colour) (pale : is_shaded x ≡ false) (h : Hold) (manner : h.manner ≡ s.free.manner) (room : h.room ≡ s.free.room)
@@ -52,20 +53,20 @@ module _ (s : State) (I : Invariant s) (e : s.collector.stage ≡ Sweep) (k : �
     s' = seen x h
 
     here : at k x s.cells.colour k ≡ x
-    here = cond-true (eqb k k) x _ (eq-eqb k k refl)
+    here = at_here k x s.cells.colour
 
     elsewhere : (c : ℕ) → (c ≡ k → ⊥) → at k x s.cells.colour c ≡ s.cells.colour c
-    elsewhere c n = cond-false (eqb c k) x _ (ne_eqb c k n)
+    elsewhere = at_other k x s.cells.colour
 
     shaded_back : (c : ℕ) → Shaded s' c → Shaded s c
     shaded_back c b = ⊎_elim
-        (λ (q : c ≡ k). let now = ap (λ j. is_shaded (at k x s.cells.colour j)) q ∙ ap is_shaded here in let z : ◌≡◌ {A = ℕ} 0 1 = cc in absurd (omega arith))
+        (λ (q : c ≡ k). let now = ap (λ j. is_shaded (at k x s.cells.colour j)) q ∙ ap is_shaded here in cc)
         (λ (n : c ≡ k → ⊥). ap is_shaded (sym (elsewhere c n)) ∙ b)
         (cases_eq c k)
 
     black_back : (c : ℕ) → at k x s.cells.colour c ≡ Black → (c ≡ k → ⊥) × (s.cells.colour c ≡ Black)
     black_back c b = ⊎_elim
-        (λ (q : c ≡ k). let now = ap (at k x s.cells.colour) q ∙ here in let z : ◌≡◌ {A = ℕ} 0 1 = cc in absurd (omega arith))
+        (λ (q : c ≡ k). let now = ap (at k x s.cells.colour) q ∙ here in cc)
         (λ (n : c ≡ k → ⊥). (n, sym (elsewhere c n) ∙ b))
         (cases_eq c k)
 
@@ -90,7 +91,7 @@ module _ (s : State) (I : Invariant s) (e : s.collector.stage ≡ Sweep) (k : �
 
     passed_on : (c : ℕ) → Passed s c → PassedBy s'.collector c
     passed_on c (behind q l) = behind q l
-    passed_on c (looked_at q l) = let z : ◌≡◌ {A = ℕ} 0 1 = cc in absurd (omega arith)
+    passed_on c (looked_at q l) = cc
 
     -- a White cell in use is behind the sweep, or has just been looked at
     white_passed : (c : ℕ) → (s.cells.colour c ≡ White → Passed s c) → at k x s.cells.colour c ≡ White → PassedBy s'.collector c
@@ -100,7 +101,7 @@ module _ (s : State) (I : Invariant s) (e : s.collector.stage ≡ Sweep) (k : �
         (cases_eq c k)
 
     not_busy : ¬ (Busy s)
-    not_busy = I.control.nothing_traced (λ q. let z : ◌≡◌ {A = ℕ} 0 1 = cc in omega arith) (λ q. let z : ◌≡◌ {A = ℕ} 0 1 = cc in omega arith)
+    not_busy = I.control.nothing_traced (λ q. cc) (λ q. cc)
 
     still_structure : Structure s'
     still_structure =
@@ -132,12 +133,12 @@ module _ (s : State) (I : Invariant s) (e : s.collector.stage ≡ Sweep) (k : �
           places = K.places;
           nothing_traced = λ n o u. not_busy (traces_same refl u);
           statuses = K.statuses;
-          scan_looked = λ q u j r. let z : ◌≡◌ {A = ℕ} 0 1 = cc in absurd (omega arith);
+          scan_looked = λ q u j r. cc;
         }
 
     no_half : SecondHalf s' → MarksSecond s' I.Cut
-    no_half (mark q n) = let z : ◌≡◌ {A = ℕ} 0 1 = cc in absurd (omega arith)
-    no_half (scan q) = let z : ◌≡◌ {A = ℕ} 0 1 = cc in absurd (omega arith)
+    no_half (mark q n) = cc
+    no_half (scan q) = cc
 
     pub seen_kept : Invariant (seen x h)
     seen_kept = record {
@@ -156,28 +157,28 @@ module _ (s : State) (I : Invariant s) (e : s.collector.stage ≡ Sweep) (k : �
       new_cells = record {
         unsettled = λ m c t p q n. absurd (n (at_async m t p));
         settled = λ m c t p q n. absurd (n (at_async m t p));
-        in_mark = λ m c a t p q r g. let z : ◌≡◌ {A = ℕ} 0 1 = cc in absurd (omega arith);
-        in_scan = λ m c a t p q r g. let z : ◌≡◌ {A = ℕ} 0 1 = cc in absurd (omega arith);
+        in_mark = λ m c a t p q r g. cc;
+        in_scan = λ m c a t p q r g. cc;
       };
       sweeps = record {
         cached = λ c l. absurd (not_busy (in_cache (some_member s.cache.members c l)));
-        in_hand = λ g q. absurd (not_busy (in_hand (λ r. let z : ◌≡◌ {A = ℕ} 0 1 = cc in omega arith)));
-        rest_black = λ q. let z : ◌≡◌ {A = ℕ} 0 1 = cc in absurd (omega arith);
-        clear_black = λ q. let z : ◌≡◌ {A = ℕ} 0 1 = cc in absurd (omega arith);
+        in_hand = λ g q. absurd (not_busy (in_hand (λ r. cc)));
+        rest_black = λ q. cc;
+        clear_black = λ q. cc;
         behind = λ q c w b. let was = black_back c b in I.sweeps.behind e c (passed_back c was.0 w) was.1;
         ahead_used = λ q c u w. white_passed c (I.sweeps.ahead_used e c (used_back u)) w;
         ahead_made = λ q c m w. white_passed c (I.sweeps.ahead_made e c m) w;
         new_value = λ m c i v t p q n. absurd (n (at_async m t p));
-        directory = λ q. let z : ◌≡◌ {A = ℕ} 0 1 = cc in absurd (omega arith);
+        directory = λ q. cc;
       };
-      first_half = λ half. let q = half.0 in let z : ◌≡◌ {A = ℕ} 0 1 = cc in absurd (omega arith);
+      first_half = λ half. let q = half.0 in cc;
       Cut = I.Cut;
       second_half = no_half;
     }
 
   -- a marked cell becomes White
   whitened : (was : is_shaded (s.cells.colour k) ≡ true) → blueness (s.cells.colour k) ≡ 0 → Invariant (seen White s.free)
-  whitened was none = seen_kept White refl s.free refl refl account (λ u b. let z : ◌≡◌ {A = ℕ} 0 1 = cc in omega arith)
+  whitened was none = seen_kept White refl s.free refl refl account (λ u b. cc)
     where
       account : (c : ℕ) → copies s.free.members c + copies_pooled 8 s.tasks c ≡ blueness (at k White s.cells.colour c)
       account c = ⊎_elim
@@ -198,7 +199,7 @@ module _ (s : State) (I : Invariant s) (e : s.collector.stage ≡ Sweep) (k : �
 
       put : put_into s.free k ≡ holding s.free (s.free.manner.added s.free.members k)
       put = cond-true (has_room s.free) _ _ (lt-ltb _ _
-          (let few = one_more_fits s I.structure.account I.structure.memory.no_cell (λ c l. (I.safe c (start (directory l))).1) k outside inside (λ b. let z : ◌≡◌ {A = ℕ} 0 1 = cc in omega arith) in
+          (let few = one_more_fits s I.structure.account I.structure.memory.no_cell (λ c l. (I.safe c (start (directory l))).1) k outside inside (λ b. cc) in
           omega (arith, I.structure.free_room)))
 
       account : (c : ℕ) → copies (put_into s.free k).members c + copies_pooled 8 s.tasks c ≡ blueness (at k Blue s.cells.colour c)
@@ -207,12 +208,12 @@ module _ (s : State) (I : Invariant s) (e : s.collector.stage ≡ Sweep) (k : �
           let was = I.structure.account c in
           ⊎_elim
           (λ (q : c ≡ k).
-          let here : one k c ≡ 1 = cond-true (eqb c k) 1 0 (eq-eqb c k q) in
+          let here = one_at k c q in
           let none : blueness (s.cells.colour c) ≡ 0 = ap (λ j. blueness (s.cells.colour j)) q ∙ ap blueness white in
           let now : blueness (at k Blue s.cells.colour c) ≡ 1 = ap blueness (cond-true (eqb c k) Blue _ (eq-eqb c k q)) in
           omega arith)
           (λ (n : c ≡ k → ⊥).
-          let here : one k c ≡ 0 = cond-false (eqb c k) 1 0 (ne_eqb c k n) in
+          let here = one_elsewhere k c n in
           let now : blueness (at k Blue s.cells.colour c) ≡ blueness (s.cells.colour c) = ap blueness (cond-false (eqb c k) Blue _ (ne_eqb c k n)) in
           omega arith)
           (cases_eq c k)

@@ -1,8 +1,8 @@
 -- What make, fill, the carry on of a making, finish and scrap do to their task and its cell is a turn on the one cell that the task makes.
-use Rattle.std.proofs.Common.{◌≡◌, ℕ, ◌+◌, ◌<◌, ◌≤◌, Bool, true, false, eqb, ◌≢◌, ◌∷◌, length, Some, None, Option, sym, refl, ap, ◌∙◌, subst, inl, inr, ⊎_elim, arith}
-use Rattle.std.proofs.lemmas.Bool.{cases_eq, cases_lt, cond-true, cond-false, eq-eqb, ne_eqb}
+use Rattle.std.proofs.Common.{◌≡◌, ℕ, ◌+◌, ◌<◌, ◌≤◌, Bool, true, false, ◌≢◌, ◌∷◌, length, Some, None, Option, sym, refl, ap, ◌∙◌, subst, inl, inr, ⊎_elim, arith}
+use Rattle.std.proofs.lemmas.Bool.{cases_eq, cases_lt}
 use Rattle.cells.specs.declared.Colour.{Colour}
-use Rattle.cells.specs.declared.Colour.TheVariants.{Blue, White, Grey, Black}
+use Rattle.cells.specs.declared.Colour.TheVariants.{Blue, White, Black}
 use Rattle.cells.specs.Memory.{at, recoloured, relinked, settable}
 use Rattle.bags.specs.Holding.{one, copies}
 use Rattle.rules.specs.declared.Status.TheVariants.{Async}
@@ -15,29 +15,24 @@ use Rattle.rules.specs.Makings.{older_of, unlinked, begin_making}
 use Rattle.rules.specs.Changes.{settled_colour}
 use Rattle.rules.proofs.States.{at_here}
 use Rattle.rules.proofs.Slots.{at_cases, at_other, pooled_swap}
-use Rattle.rules.proofs.Accounts.{blueness}
+use Rattle.rules.proofs.Accounts.{blueness, not_blue, is_blue}
 use Rattle.rules.proofs.SettledColour.{settled_not_blue, settled_white, settled_before, settled_past, settled_passed, settled_ahead}
 use Rattle.rules.proofs.SoundCells.{recoloured_sound, unlinked_sound, relinked_either, relinked_sound}
 use Rattle.rules.proofs.Words.{made_by, Made, Passed, behind, looked_at, Used, register, filled, SecondHalf, mark, scan, Marked}
 use Rattle.rules.proofs.Invariant.{Invariant, Unsettled, taken}
 use Rattle.rules.proofs.NewCell.{Behind, at_rest, at_clear, in_sweep, behind_unsettled, Table, Turn}
-
-none_blue : (k : Colour) → k ≢ Blue → blueness k ≡ 0
-none_blue Blue n = absurd (n refl)
-none_blue White n = refl
-none_blue Grey n = refl
-none_blue Black n = refl
+use Rattle.rules.proofs.Numbers.{one_at, one_elsewhere}
 
 -- where x alone becomes Blue, it is the one cell more that must be held
 bluer : (x : ℕ) (f g : ℕ → Colour) → ((c : ℕ) → c ≢ x → g c ≡ f c) → blueness (f x) ≡ 0 → blueness (g x) ≡ 1 → (c : ℕ) → one x c + blueness (f c) ≡ blueness (g c)
 bluer x f g others was now c = ⊎_elim
     (λ (e : c ≡ x).
-    let here : one x c ≡ 1 = cond-true (eqb c x) 1 0 (eq-eqb c x e) in
+    let here = one_at x c e in
     let was-here = ap (λ y. blueness (f y)) e in
     let now-here = ap (λ y. blueness (g y)) e in
     omega arith)
     (λ (n : c ≡ x → ⊥).
-    let elsewhere : one x c ≡ 0 = cond-false (eqb c x) 1 0 (ne_eqb c x n) in
+    let elsewhere = one_elsewhere x c n in
     let same = ap blueness (others c n) in
     omega arith)
     (cases_eq c x)
@@ -77,11 +72,11 @@ module _ (s : State) (I : Invariant s) (m x : ℕ) (t : Task) (a : Bool) (presen
         (λ (e : (j ≡ b) × (Some x ≡ Some c)). let f = e.1 in inr (cc, refl, (I.works.made_apart x made).2))
         (λ e. inl e.1)
         (at_cases b (Some x) t.registers j (Some c) q);
-    makes = λ w e. let z : ◌≡◌ {A = ℕ} 0 1 = cc in absurd (omega arith);
-    new_colour = λ c e. let z : ◌≡◌ {A = ℕ} 0 1 = cc in absurd (omega arith);
+    makes = λ w e. cc;
+    new_colour = λ c e. cc;
     finished_white = λ _ _ g. I.new_cells.settled m x t present (subst (λ y. t.work ≡ Some (Making x y)) is work) g;
     finished_black = λ _ _ g h. black_in_half g h;
-    black = λ b q. let f = own_black b q in let z : ◌≡◌ {A = ℕ} 0 1 = cc in absurd (omega arith);
+    black = λ b q. let f = own_black b q in cc;
     white = λ e q. I.sweeps.ahead_made e x made q;
   }
     where
@@ -117,8 +112,8 @@ module _ (s : State) (I : Invariant s) (m x : ℕ) (t : Task) (a : Bool) (presen
       in_mark = λ g. I.new_cells.in_mark m x b t present f g;
       in_scan = λ g. I.new_cells.in_scan m x b t present f g;
     };
-    finished_white = λ f. let z : ◌≡◌ {A = ℕ} 0 1 = cc in absurd (omega arith);
-    finished_black = λ f. let z : ◌≡◌ {A = ℕ} 0 1 = cc in absurd (omega arith);
+    finished_white = λ f. cc;
+    finished_black = λ f. cc;
     black = own_black;
     white = λ f q. I.sweeps.ahead_made f x made q;
   }
@@ -135,7 +130,7 @@ module _ (s : State) (I : Invariant s) (m x : ℕ) (t : Task) (a : Bool) (presen
   }
 
   was_not_blue : blueness (s.cells.colour x) ≡ 0
-  was_not_blue = none_blue (s.cells.colour x) (I.works.made_apart x made).2
+  was_not_blue = not_blue (s.cells.colour x) (I.works.made_apart x made).2
 
   -- scrapped: it is Blue, and in the pool
   pub scrap_turn : Turn s I m x t (with_work (with_pool t (x ∷ t.pool)) None) (recoloured s.cells x Blue)
@@ -150,12 +145,12 @@ module _ (s : State) (I : Invariant s) (m x : ℕ) (t : Task) (a : Bool) (presen
         account = λ c. let more = bluer x s.cells.colour (at x Blue s.cells.colour) (at_other x Blue s.cells.colour) was_not_blue (ap blueness blue) c in omega arith;
         few = λ k g. I.structure.registers m k t present g;
         registers = λ k c q. inl q;
-        makes = λ w e. let z : ◌≡◌ {A = ℕ} 0 1 = cc in absurd (omega arith);
-        new_colour = λ b e. let z : ◌≡◌ {A = ℕ} 0 1 = cc in absurd (omega arith);
+        makes = λ w e. cc;
+        new_colour = λ b e. cc;
         finished_white = λ e n. absurd (n blue);
         finished_black = λ e n. absurd (n blue);
-        black = λ e q. let z : ◌≡◌ {A = ℕ} 0 1 = cc in absurd (omega arith);
-        white = λ e q. let z : ◌≡◌ {A = ℕ} 0 1 = cc in absurd (omega arith);
+        black = λ e q. cc;
+        white = λ e q. cc;
       }
 
   -- settled: it has the colour that status and sweep ask for
@@ -173,7 +168,7 @@ module _ (s : State) (I : Invariant s) (m x : ℕ) (t : Task) (a : Bool) (presen
             (λ (e : c ≡ x).
             let was = ap (λ y. blueness (s.cells.colour y)) e ∙ was_not_blue in
             let now = ap blueness (ap (at x k s.cells.colour) e ∙ is) in
-            let none = none_blue k (settled_not_blue t.status s.collector.swept x) in
+            let none = not_blue k (settled_not_blue t.status s.collector.swept x) in
             omega arith)
             (λ (e : c ≡ x → ⊥). let same = ap blueness (at_other x k s.cells.colour c e) in omega arith)
             (cases_eq c x);
@@ -182,13 +177,13 @@ module _ (s : State) (I : Invariant s) (m x : ℕ) (t : Task) (a : Bool) (presen
         makes = λ w e. (true, cc);
         new_colour = λ b e. record {
           not_blue = λ q. settled_not_blue t.status s.collector.swept x (sym is ∙ q);
-          black_first = λ g f. let z : ◌≡◌ {A = ℕ} 0 1 = cc in absurd (omega arith);
+          black_first = λ g f. cc;
           white_then = λ g f. is ∙ settled_white t.status s.collector.swept x g;
           in_mark = λ g f. is ∙ settled_before t.status s.collector.swept x g (I.control.places.mark f);
           in_scan = λ g f. is ∙ settled_before t.status s.collector.swept x g (I.control.places.scan f).2;
         };
-        finished_white = λ e. let z : ◌≡◌ {A = ℕ} 0 1 = cc in absurd (omega arith);
-        finished_black = λ e. let z : ◌≡◌ {A = ℕ} 0 1 = cc in absurd (omega arith);
+        finished_white = λ e. cc;
+        finished_black = λ e. cc;
         black = λ b q. absurd (not_black b (sym is ∙ q));
         white = λ e q. ahead e (sym is ∙ q);
       }
@@ -205,12 +200,6 @@ module _ (s : State) (I : Invariant s) (m x : ℕ) (t : Task) (a : Bool) (presen
       ahead : s.collector.stage ≡ Sweep → settled_colour t.status s.collector.swept x ≡ White → Passed s x
       ahead e q = let place = I.control.places.sweep_place e in behind place.1.0 (settled_ahead t.status s.collector.swept place.0 x (async e) place.1.0 q)
 
-is_blue : (k : Colour) → 0 < blueness k → k ≡ Blue
-is_blue Blue l = refl
-is_blue White l = absurd (omega arith)
-is_blue Grey l = absurd (omega arith)
-is_blue Black l = absurd (omega arith)
-
 -- an idle task has x as the last added cell of its pool
 module _ (s : State) (I : Invariant s) (m x : ℕ) (t : Task) (slot : m < 8) (present : s.tasks m ≡ Some t) (idle : t.work ≡ None) (newest : t.pool ≡ x ∷ older_of t.pool) where
   in_pool : (c : ℕ) → copies t.pool c ≡ one x c + copies (older_of t.pool) c
@@ -222,21 +211,21 @@ module _ (s : State) (I : Invariant s) (m x : ℕ) (t : Task) (slot : m < 8) (pr
       let among = pooled_swap 8 m slot None s.tasks x in
       let mine : copies (pool_in (s.tasks m)) x ≡ copies t.pool x = ap (λ o. copies (pool_in o) x) present in
       let held = in_pool x in
-      let here : one x x ≡ 1 = cond-true (eqb x x) 1 0 (eq-eqb x x refl) in
+      let here = one_at x x refl in
       let all = I.structure.account x in
       is_blue (s.cells.colour x) (omega arith)
 
   pub inside : x < s.cells.size
   inside = ⊎_elim
       (λ (l : x < s.cells.size). l)
-      (λ (g : s.cells.size ≤ x). let w = I.structure.memory.no_cell x g in let b = pooled_blue in let z : ◌≡◌ {A = ℕ} 0 1 = cc in absurd (omega arith))
+      (λ (g : s.cells.size ≤ x). let w = I.structure.memory.no_cell x g in let b = pooled_blue in cc)
       (cases_lt x s.cells.size)
 
   -- its links are empty
   no_names : (i c : ℕ) {A : Type 0} → (unlinked (recoloured s.cells x Black) x).link x i ≡ Some c → A
   no_names i c e =
       let empty = ap (λ (f : ℕ → Option ℕ). f i) (at_here x (λ j. None) s.cells.link) in
-      let z : ◌≡◌ {A = ℕ} 0 1 = cc in absurd (omega arith)
+      cc
 
   pub make_turn : Turn s I m x t (begin_making x t) (unlinked (recoloured s.cells x Black) x)
   make_turn =
@@ -262,14 +251,14 @@ module _ (s : State) (I : Invariant s) (m x : ℕ) (t : Task) (slot : m < 8) (pr
         registers = λ j c q. inl q;
         makes = λ w e. (false, cc);
         new_colour = λ b e. record {
-          not_blue = λ q. let z : ◌≡◌ {A = ℕ} 0 1 = cc in omega arith;
+          not_blue = λ q. cc;
           black_first = λ g f. is;
-          white_then = λ g f. let z : ◌≡◌ {A = ℕ} 0 1 = cc in absurd (omega arith);
+          white_then = λ g f. cc;
           in_mark = λ g f. is;
           in_scan = λ g f. is;
         };
-        finished_white = λ e. let z : ◌≡◌ {A = ℕ} 0 1 = cc in absurd (omega arith);
-        finished_black = λ e. let z : ◌≡◌ {A = ℕ} 0 1 = cc in absurd (omega arith);
+        finished_white = λ e. cc;
+        finished_black = λ e. cc;
         black = λ b q. refl;
-        white = λ e q. let z : ◌≡◌ {A = ℕ} 0 1 = cc in absurd (omega arith);
+        white = λ e q. cc;
       }

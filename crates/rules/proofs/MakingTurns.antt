@@ -1,17 +1,16 @@
 -- Make, fill, the carry on of a making, finish and scrap keep the invariant.
-use Rattle.std.proofs.Common.{◌≡◌, ℕ, ◌<◌, Bool, true, false, eqb, ltb, List, [], ◌∷◌, length, Some, None, Ok, Err, Option, Result, sym, refl, ap, ◌∙◌, subst, arith}
+use Rattle.std.proofs.Common.{◌≡◌, ℕ, ◌<◌, true, false, eqb, ltb, List, [], ◌∷◌, length, Some, None, Ok, Err, Option, Result, sym, refl, ap, ◌∙◌, subst, arith}
 use Rattle.std.proofs.lemmas.Bool.{cond-true, cond_both, eqb-true, ltb-true, lt-ltb}
 use Rattle.cells.specs.declared.Colour.TheVariants.{Blue, Black}
 use Rattle.cells.specs.Memory.{Cells, coloured, linked, relinked, settable}
-use Rattle.rules.specs.declared.Work.{Work}
-use Rattle.rules.specs.declared.Work.TheVariants.{Change, Making}
+use Rattle.rules.specs.declared.Work.TheVariants.{Making}
 use Rattle.rules.specs.declared.Refusal.{Refusal}
-use Rattle.rules.specs.declared.Refusal.TheVariants.{NoTask, PoolEmpty, NoSuchMaking, WorkUnfinished}
+use Rattle.rules.specs.declared.Refusal.TheVariants.{PoolEmpty}
 use Rattle.rules.specs.State.{Task, State, with_cells, with_task, with_pool, with_register, with_work, grown, in_slot, has_slot, is_register}
-use Rattle.rules.specs.Makings.{newest_of, older_of, unlinked, begin_making, making_in, of_making, make, make_checks, fill, fill_checks, finish, finish_checks, scrap, scrap_checks}
+use Rattle.rules.specs.Makings.{newest_of, older_of, unlinked, begin_making, make, make_checks, fill, fill_checks, finish, finish_checks, scrap, scrap_checks}
 use Rattle.rules.specs.Changes.{status_in, settled_colour, carrying}
 use Rattle.rules.proofs.States.{task_as_it_was}
-use Rattle.rules.proofs.Checked.{need_passed, idle_passed, ok_same, below_eight, is_idle_lem}
+use Rattle.rules.proofs.Checked.{need_passed, idle_passed, ok_same, below_eight, is_idle_lem, making_passed}
 use Rattle.rules.proofs.SoundCells.{coloured_inside}
 use Rattle.rules.proofs.Invariant.{Invariant, taken}
 use Rattle.rules.proofs.NewCell.{Turn}
@@ -25,28 +24,8 @@ turned : {s : State} {I : Invariant s} {m x : ℕ} {t u : Task} {n : Cells} → 
 turned {s} {I} {m} {x} {t} {u} {n} T o c e f =
     subst (λ (y : Cells). Invariant (with_cells (with_task s m o) y)) (sym f) (subst (λ (y : Option Task). Invariant (with_cells (with_task s m y) n)) (sym e) (new_cell_turn T))
 
--- what passed the checks of a making
-record Makes {A : Type 0} (o : Option Task) (next : Task → ℕ → Bool → Result A Refusal) (y : A) : Type 0 where
-  task : Task
-  cell : ℕ
-  settled : Bool
-  present : o ≡ Some task
-  work : task.work ≡ Some (Making cell settled)
-  then : Ok y ≡ next task cell settled
-
-making_passed : {A : Type 0} (o : Option Task) (next : Task → ℕ → Bool → Result A Refusal) (y : A) → Ok y ≡ of_making o next → Makes o next y
-making_passed {A} None next y e = let f : ◌≡◌ {A = Result A Refusal} (Ok y) (Err NoTask) = e in let z : ◌≡◌ {A = ℕ} 0 1 = cc in absurd (omega arith)
-making_passed {A} (Some t) next y e =
-    let found = work_passed t.work e in
-    record { task = t; cell = found.0; settled = found.1.0; present = refl; work = found.1.1.0; then = found.1.1.1 }
-  where
-    work_passed : (w : Option Work) → Ok y ≡ making_in w (next t) → (x : ℕ) × ((a : Bool) × ((w ≡ Some (Making x a)) × (Ok y ≡ next t x a)))
-    work_passed None e = let f : ◌≡◌ {A = Result A Refusal} (Ok y) (Err NoSuchMaking) = e in let z : ◌≡◌ {A = ℕ} 0 1 = cc in absurd (omega arith)
-    work_passed (Some (Change x i v step)) e = let f : ◌≡◌ {A = Result A Refusal} (Ok y) (Err WorkUnfinished) = e in let z : ◌≡◌ {A = ℕ} 0 1 = cc in absurd (omega arith)
-    work_passed (Some (Making x a)) e = (x, (a, (refl, e)))
-
 newest_is : (pool : List ℕ) (x : ℕ) → Ok x ≡ newest_of pool → pool ≡ x ∷ older_of pool
-newest_is [] x e = let f : ◌≡◌ {A = Result ℕ Refusal} (Ok x) (Err PoolEmpty) = e in let z : ◌≡◌ {A = ℕ} 0 1 = cc in absurd (omega arith)
+newest_is [] x e = let f : ◌≡◌ {A = Result ℕ Refusal} (Ok x) (Err PoolEmpty) = e in cc
 newest_is (y ∷ xs) x e = ap (λ z. z ∷ xs) (sym (ok_same e))
 
 pub make_kept : (s : State) → Invariant s → (m : ℕ) → Invariant (make m s).after

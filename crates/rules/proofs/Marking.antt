@@ -1,8 +1,8 @@
 -- A turn of the collector that shades cells which can be touched, and begins and ends in Mark or Scan, keeps the invariant, if what
 -- it says of its own cells and of the marking is shown.
-use Rattle.std.proofs.Common.{◌≡◌, ℕ, ◌<◌, Bool, true, false, ◌≢◌, ◌⊎◌, Some, sym, refl, ap, ◌∙◌, subst, inl, inr, ⊎_elim, arith}
+use Rattle.std.proofs.Common.{◌≡◌, ℕ, ◌<◌, Bool, true, false, ◌≢◌, ◌⊎◌, Some, sym, ap, ◌∙◌, subst, inl, inr, ⊎_elim, arith}
 use Rattle.cells.specs.declared.Colour.{Colour}
-use Rattle.cells.specs.declared.Colour.TheVariants.{Blue, White, Grey, Black}
+use Rattle.cells.specs.declared.Colour.TheVariants.{Blue, Black}
 use Rattle.bags.specs.Holding.{Hold, Fair, copies}
 use Rattle.rules.specs.declared.Status.TheVariants.{Async}
 use Rattle.rules.specs.declared.Stage.{Stage}
@@ -12,7 +12,7 @@ use Rattle.rules.specs.declared.Work.TheVariants.{Making}
 use Rattle.rules.specs.declared.Collector.{Collector}
 use Rattle.rules.specs.State.{Task, State}
 use Rattle.rules.specs.Reach.{start, along}
-use Rattle.rules.proofs.Accounts.{blueness}
+use Rattle.rules.proofs.Accounts.{blueness, not_blue}
 use Rattle.rules.proofs.Ways.{lead_into, reached_have}
 use Rattle.rules.proofs.Words.{Made, made_by, is_shaded, Shaded, Kept, Used, UsedRoot, directory, register, kept, filled, ahead_of, Pending, cached, grey_in_mark, in_directory, ahead, at_scan, dirty, TracedRoot, pending, by_hand, Traced, Marked, FirstHalf, SecondHalf}
 use Rattle.rules.proofs.Invariant.{Structure, Control, Works, MarksFirst, MarksSecond, Invariant}
@@ -26,31 +26,22 @@ abbrev pub WorksIn : Stage → Type 0
 WorksIn g = (g ≡ Mark) ⊎ (g ≡ Scan)
 
 pub shaded_not_blue : (x : Colour) → is_shaded x ≡ true → x ≢ Blue
-shaded_not_blue x h e = let z : ◌≡◌ {A = ℕ} 0 1 = cc in omega arith
+shaded_not_blue x h e = cc
 
 shaded_colourless : (x : Colour) → is_shaded x ≡ true → blueness x ≡ 0
-shaded_colourless Blue h = let z : ◌≡◌ {A = ℕ} 0 1 = cc in absurd (omega arith)
-shaded_colourless White h = refl
-shaded_colourless Grey h = refl
-shaded_colourless Black h = refl
-
-not_blue_colourless : (x : Colour) → x ≢ Blue → blueness x ≡ 0
-not_blue_colourless Blue n = absurd (n refl)
-not_blue_colourless White n = refl
-not_blue_colourless Grey n = refl
-not_blue_colourless Black n = refl
+shaded_colourless x h = not_blue x (shaded_not_blue x h)
 
 no_rest : {A : Type 0} {g : Stage} → WorksIn g → g ≡ Rest → A
-no_rest (inl e) f = let z : ◌≡◌ {A = ℕ} 0 1 = cc in absurd (omega arith)
-no_rest (inr e) f = let z : ◌≡◌ {A = ℕ} 0 1 = cc in absurd (omega arith)
+no_rest (inl e) f = cc
+no_rest (inr e) f = cc
 
 no_clear : {A : Type 0} {g : Stage} → WorksIn g → g ≡ Clear → A
-no_clear (inl e) f = let z : ◌≡◌ {A = ℕ} 0 1 = cc in absurd (omega arith)
-no_clear (inr e) f = let z : ◌≡◌ {A = ℕ} 0 1 = cc in absurd (omega arith)
+no_clear (inl e) f = cc
+no_clear (inr e) f = cc
 
 no_sweep : {A : Type 0} {g : Stage} → WorksIn g → g ≡ Sweep → A
-no_sweep (inl e) f = let z : ◌≡◌ {A = ℕ} 0 1 = cc in absurd (omega arith)
-no_sweep (inr e) f = let z : ◌≡◌ {A = ℕ} 0 1 = cc in absurd (omega arith)
+no_sweep (inl e) f = cc
+no_sweep (inr e) f = cc
 
 module _ (s : State) (I : Invariant s) (colour' : ℕ → Colour) (cache' : Hold) (co' : Collector) where
   abbrev s' : State
@@ -90,7 +81,7 @@ module _ (s : State) (I : Invariant s) (colour' : ℕ → Colour) (cache' : Hold
     same_account : (c : ℕ) → blueness (colour' c) ≡ blueness (s.cells.colour c)
     same_account c = ⊎_elim
         (λ (e : colour' c ≡ s.cells.colour c). ap blueness e)
-        (λ (a : Used s c × (is_shaded (colour' c) ≡ true)). shaded_colourless (colour' c) a.1 ∙ sym (not_blue_colourless (s.cells.colour c) (I.safe c a.0).1))
+        (λ (a : Used s c × (is_shaded (colour' c) ≡ true)). shaded_colourless (colour' c) a.1 ∙ sym (not_blue (s.cells.colour c) (I.safe c a.0).1))
         (shades c)
 
     still_structure : cache'.manner ≡ s.cache.manner → cache'.room ≡ s.cache.room → Structure s'

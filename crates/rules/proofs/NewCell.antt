@@ -1,13 +1,13 @@
 -- A turn of a task on the one cell that it makes, from the pool to a register or back: what it must be in order to keep the
 -- invariant, and how what is made, kept, used and marked before and after it go together.
-use Rattle.std.proofs.Common.{◌≡◌, ℕ, ◌+◌, ◌<◌, ◌≤◌, Bool, true, false, ◌≢◌, ◌⊎◌, length, Some, None, Option, sym, refl, ap, ◌∙◌, subst, inl, inr, ⊎_elim, arith}
+use Rattle.std.proofs.Common.{◌≡◌, ℕ, ◌+◌, ◌<◌, ◌≤◌, Bool, true, false, ◌≢◌, ◌⊎◌, length, Some, None, Option, sym, refl, ap, ◌∙◌, subst, inl, inr, ⊎_elim}
 use Rattle.std.proofs.lemmas.Bool.{cases_eq, cases_lt}
 use Rattle.cells.specs.declared.Colour.{Colour}
 use Rattle.cells.specs.declared.Colour.TheVariants.{Blue, White, Grey, Black}
 use Rattle.cells.specs.Memory.{Cells, at, Sound as SoundMemory}
 use Rattle.bags.specs.Holding.{copies}
 use Rattle.rules.specs.declared.Status.{Status}
-use Rattle.rules.specs.declared.Status.TheVariants.{Async, Sync1, Sync2}
+use Rattle.rules.specs.declared.Status.TheVariants.{Async}
 use Rattle.rules.specs.declared.Stage.TheVariants.{Rest, Clear, Mark, Scan, Sweep}
 use Rattle.rules.specs.declared.Step.{Step}
 use Rattle.rules.specs.declared.Work.{Work}
@@ -17,11 +17,12 @@ use Rattle.rules.specs.Reach.{start, along, Names}
 use Rattle.rules.proofs.Accounts.{blueness}
 use Rattle.rules.proofs.Ways.{reached_have}
 use Rattle.rules.proofs.States.{at_here}
-use Rattle.rules.proofs.Slots.{at_cases, at_other}
+use Rattle.rules.proofs.Slots.{at_cases, at_other, slot_below}
 use Rattle.rules.proofs.Words.{made_by, Made, Kept, Passed, Used, UsedRoot, directory, register, kept, filled, SecondHalf, Pending, cached, grey_in_mark, in_directory, ahead, at_scan, dirty, Marked}
 use Rattle.rules.proofs.Touched.{kept_used, hand_kept, pending_used}
 use Rattle.rules.proofs.Apart.{traced_across}
 use Rattle.rules.proofs.Invariant.{Invariant, Unsettled, taken}
+use Rattle.rules.proofs.Halves.{async_or_not}
 
 -- the sweep is past x: in Rest and Clear it is past every cell
 pub data Behind (s : State) (x : ℕ) : Type 0 where
@@ -71,11 +72,6 @@ behind_unsettled s I x (at_rest e) = I.sweeps.rest_black e x
 behind_unsettled s I x (at_clear e) = I.sweeps.clear_black e x
 behind_unsettled s I x (in_sweep e l) = I.sweeps.behind e x l
 
-async_or_not : (q : Status) → (q ≡ Async) ⊎ (q ≢ Async)
-async_or_not Async = inl refl
-async_or_not Sync1 = inr (λ e. let z : ◌≡◌ {A = ℕ} 0 1 = cc in omega arith)
-async_or_not Sync2 = inr (λ e. let z : ◌≡◌ {A = ℕ} 0 1 = cc in omega arith)
-
 work_or_none : (o : Option Work) → (o ≡ None) ⊎ ((w : Work) × (o ≡ Some w))
 work_or_none None = inl refl
 work_or_none (Some w) = inr (w, refl)
@@ -88,10 +84,7 @@ module _ {s : State} {I : Invariant s} {m x : ℕ} {t u : Task} {n : Cells} (T :
   filled_slot = at_here m (Some u) s.tasks
 
   pub slot : m < 8
-  slot = ⊎_elim
-      (λ (l : m < 8). l)
-      (λ (g : 8 ≤ m). let vacant = I.structure.slots m g in let there = T.present in let z : ◌≡◌ {A = ℕ} 0 1 = cc in absurd (omega arith))
-      (cases_lt m 8)
+  slot = slot_below I.structure.slots m t T.present
 
   unused : ¬ (Used s x)
   unused y = ⊎_elim
@@ -108,7 +101,7 @@ module _ {s : State} {I : Invariant s} {m x : ℕ} {t u : Task} {n : Cells} (T :
       (λ (b : (a : Bool) × (t.work ≡ Some (Making x a))). let a = I.works.made_apart x (made_by m b.0 T.present b.1) in (a.0, a.1))
       (λ (b : (t.work ≡ None) × (s.cells.colour x ≡ Blue)). let is = b.1 in (
         ⊎_elim (λ (l : x < s.directory). absurd (unused (start (directory l)))) (λ (g : s.directory ≤ x). g) (cases_lt x s.directory),
-        ⊎_elim (λ (l : x < s.cells.size). l) (λ (g : s.cells.size ≤ x). let w = I.structure.memory.no_cell x g in let z : ◌≡◌ {A = ℕ} 0 1 = cc in absurd (omega arith)) (cases_lt x s.cells.size),
+        ⊎_elim (λ (l : x < s.cells.size). l) (λ (g : s.cells.size ≤ x). let w = I.structure.memory.no_cell x g in cc) (cases_lt x s.cells.size),
       ))
       T.before
 
@@ -125,7 +118,7 @@ module _ {s : State} {I : Invariant s} {m x : ℕ} {t u : Task} {n : Cells} (T :
       let same : u ≡ v = let f = e.1 in cc in
       let a = T.makes (Change y i z step) (ap (λ (w : Task). w.work) same ∙ q) in
       let f = a.1 in
-      let z : ◌≡◌ {A = ℕ} 0 1 = cc in absurd (omega arith))
+      cc)
       (λ (e : (k ≡ m → ⊥) × (s.tasks k ≡ Some v)). e.1)
       (at_cases m (Some u) s.tasks k (Some v) p)
 
@@ -154,7 +147,7 @@ module _ {s : State} {I : Invariant s} {m x : ℕ} {t u : Task} {n : Cells} (T :
           let work : t.work ≡ Some (Making c a) = ap (λ (w : Task). w.work) same ∙ q in
           ⊎_elim
           (λ (b : (a : Bool) × (t.work ≡ Some (Making x a))). let f = b.1 in apart cc)
-          (λ b. let f = b.0 in let z : ◌≡◌ {A = ℕ} 0 1 = cc in absurd (omega arith))
+          (λ b. let f = b.0 in cc)
           T.before
 
   made_on : (c : ℕ) → c ≢ x → Made s c → Made s' c
@@ -178,7 +171,7 @@ module _ {s : State} {I : Invariant s} {m x : ℕ} {t u : Task} {n : Cells} (T :
 
   kept_out : Kept s' x → Out
   kept_out k = ⊎_elim
-      (λ (e : u.work ≡ None). (e, λ b. let h = k.0 in let z : ◌≡◌ {A = ℕ} 0 1 = cc in omega arith))
+      (λ (e : u.work ≡ None). (e, λ b. let h = k.0 in cc))
       (λ (e : (w : Work) × (u.work ≡ Some w)).
       let a = T.makes e.0 e.1 in
       absurd (k.1 (made_by m a.0 filled_slot (e.1 ∙ ap Some a.1))))
@@ -186,7 +179,7 @@ module _ {s : State} {I : Invariant s} {m x : ℕ} {t u : Task} {n : Cells} (T :
 
   pub out_not_made : Out → ¬ (Made s' x)
   out_not_made o (made_by k a {t = v} p q) = ⊎_elim
-      (λ e. let none = o.0 in let some = e.3 in let z : ◌≡◌ {A = ℕ} 0 1 = cc in omega arith)
+      (λ e. let none = o.0 in let some = e.3 in cc)
       (λ e. e.2 refl)
       (making_on k v x a p q)
 
@@ -195,7 +188,7 @@ module _ {s : State} {I : Invariant s} {m x : ℕ} {t u : Task} {n : Cells} (T :
   kept_async k = ⊎_elim
       (λ (e : t.status ≡ Async). e)
       (λ (e : t.status ≢ Async).
-      let o = kept_out k in let is = T.finished_white o.0 o.1 e in let h = k.0 in let z : ◌≡◌ {A = ℕ} 0 1 = cc in absurd (omega arith))
+      let o = kept_out k in let is = T.finished_white o.0 o.1 e in let h = k.0 in cc)
       (async_or_not t.status)
 
   kept_black : SecondHalf s → Kept s' x → n.colour x ≡ Black
@@ -234,7 +227,7 @@ module _ {s : State} {I : Invariant s} {m x : ℕ} {t u : Task} {n : Cells} (T :
   module _ (half : SecondHalf s) where
     kept_near : (c : ℕ) → Kept s' c → n.colour c ≡ Grey → Used s c
     kept_near c k g = ⊎_elim
-        (λ (e : c ≡ x). let b = kept_black half (subst (Kept s') e k) in let f = ap n.colour e in let z : ◌≡◌ {A = ℕ} 0 1 = cc in absurd (omega arith))
+        (λ (e : c ≡ x). let b = kept_black half (subst (Kept s') e k) in let f = ap n.colour e in cc)
         (λ (a : c ≡ x → ⊥). kept_used s I (keep_back c a k))
         (cases_eq c x)
 

@@ -5,7 +5,7 @@ use Rattle.cells.specs.declared.Colour.{Colour}
 use Rattle.cells.specs.declared.Colour.TheVariants.{Blue, White, Black}
 use Rattle.cells.specs.Memory.{Cells, at}
 use Rattle.bags.specs.Holding.{copies}
-use Rattle.rules.specs.declared.Status.TheVariants.{Async, Sync1, Sync2}
+use Rattle.rules.specs.declared.Status.TheVariants.{Async}
 use Rattle.rules.specs.declared.Stage.TheVariants.{Mark, Scan}
 use Rattle.rules.specs.declared.Step.{Step}
 use Rattle.rules.specs.declared.Work.TheVariants.{Change, Making}
@@ -18,6 +18,7 @@ use Rattle.rules.proofs.Touched.{kept_used, marked_used}
 use Rattle.rules.proofs.NewCell.{Behind, at_rest, at_clear, in_sweep, behind_unsettled, Turn, Out, filled_slot, slot, used_apart, place, changing_on, making_on, made_back, unsettled_on, keep_on, keep_back, out_not_made, kept_async, used_back, mark_on, mark_back}
 use Rattle.rules.proofs.Places.{Places}
 use Rattle.rules.proofs.Invariant.{Structure, Control, Works, Safe, NewCells, Sweeps, MarksFirst, MarksSecond, Invariant, Unsettled, taken}
+use Rattle.rules.proofs.Halves.{first_not_async}
 
 module _ {s : State} {I : Invariant s} {m x : ℕ} {t u : Task} {n : Cells} (T : Turn s I m x t u n) where
   abbrev s' : State
@@ -165,22 +166,12 @@ module _ {s : State} {I : Invariant s} {m x : ℕ} {t u : Task} {n : Cells} (T :
         directory = λ e c l h. shaded_on c (start (directory h)) (W.directory e c l h);
       }
 
-  not_async : FirstHalf s → t.status ≢ Async
-  not_async h g = ⊎_elim
-      (λ (e : (s.collector.status ≡ Sync2) × (s.collector.phase ≡ Sync1)). let a = e.0 in let b = e.1 in
-      ⊎_elim
-      (λ (f : t.status ≡ s.collector.status). let z : ◌≡◌ {A = ℕ} 0 1 = cc in omega arith)
-      (λ (f : t.status ≡ s.collector.phase). let z : ◌≡◌ {A = ℕ} 0 1 = cc in omega arith)
-      (I.control.statuses m t T.present))
-      (λ e. e.1 h.1)
-      (I.control.places.mark_statuses h.0)
-
   first_half : FirstHalf s → MarksFirst s'
   first_half h =
       let F = I.first_half h in
       record {
         black_to_shaded = λ y i c k b l a e. ⊎_elim
-            (λ (f : y ≡ x). absurd (not_async h (kept_async T (subst (Kept s') f k))))
+            (λ (f : y ≡ x). absurd (first_not_async s I m t T.present h (kept_async T (subst (Kept s') f k))))
             (λ (f : y ≡ x → ⊥).
             let was = keep_back T y f k in
             let named = sym (T.table.links y i f) ∙ e in

@@ -1,5 +1,5 @@
 -- How many numbers below n have a property, by sums.
-use Rattle.std.proofs.Common.{◌≡◌, ℕ, zero, suc, ◌+◌, ◌<◌, ◌≤◌, eqb, ◌⊎◌, List, [], ◌∷◌, length, refl, ap, ◌∙◌, subst, ⊎_elim, not-suc-le-zero, arith}
+use Rattle.std.proofs.Common.{◌≡◌, ℕ, zero, suc, ◌+◌, ◌<◌, ◌≤◌, eqb, ◌⊎◌, List, [], ◌∷◌, length, refl, ◌∙◌, subst, ⊎_elim, not-suc-le-zero, arith}
 use Rattle.std.proofs.lemmas.Bool.{cases_eq, cond-true, cond-false, eq-eqb, ne_eqb}
 use Rattle.bags.specs.Holding.{one, copies}
 use Rattle.rules.specs.Law.{Number, none, one as counted, skip}
@@ -26,14 +26,14 @@ pub sum_add : (n : ℕ) (f g : ℕ → ℕ) → sum_to n (λ c. f c + g c) ≡ s
 sum_add zero f g = refl
 sum_add (suc n) f g = let before = sum_add n f g in omega arith
 
-sum_none : (n : ℕ) → sum_to n (λ c. 0) ≡ 0
+pub sum_none : (n : ℕ) → sum_to n (λ c. 0) ≡ 0
 sum_none zero = refl
 sum_none (suc n) = let before = sum_none n in omega arith
 
-one_here : (x : ℕ) → one x x ≡ 1
-one_here x = cond-true (eqb x x) 1 0 (eq-eqb x x refl)
+pub one_at : (x k : ℕ) → k ≡ x → one x k ≡ 1
+one_at x k e = cond-true (eqb k x) 1 0 (eq-eqb k x e)
 
-one_elsewhere : (x k : ℕ) → (k ≡ x → ⊥) → one x k ≡ 0
+pub one_elsewhere : (x k : ℕ) → (k ≡ x → ⊥) → one x k ≡ 0
 one_elsewhere x k ne = cond-false (eqb k x) 1 0 (ne_eqb k x ne)
 
 sum_one_past : (n x : ℕ) → n ≤ x → sum_to n (one x) ≡ 0
@@ -43,7 +43,7 @@ sum_one_past (suc n) x h = let before = sum_one_past n x (omega arith) in omega 
 pub sum_one : (n x : ℕ) → x < n → sum_to n (one x) ≡ 1
 sum_one zero x h = absurd (not-suc-le-zero h)
 sum_one (suc n) x h = ⊎_elim
-    (λ (e : n ≡ x). omega (arith, sum_one_past n x (omega arith), ap (one x) e, one_here x))
+    (λ (e : n ≡ x). omega (arith, sum_one_past n x (omega arith), one_at x n e))
     (λ (ne : n ≡ x → ⊥). omega (arith, sum_one n x (omega arith), one_elsewhere x n ne))
     (cases_eq n x)
 
@@ -51,6 +51,6 @@ sum_one (suc n) x h = ⊎_elim
 pub sum_copies : (n : ℕ) (xs : List ℕ) → ((c : ℕ) → 0 < copies xs c → c < n) → sum_to n (copies xs) ≡ length xs
 sum_copies n [] h = sum_none n
 sum_copies n (x ∷ xs) h =
-    let first = sum_one n x (h x (omega (arith, one_here x))) in
+    let first = sum_one n x (h x (omega (arith, one_at x x refl))) in
     let others = sum_copies n xs (λ c l. h c (omega arith)) in
     sum_add n (one x) (copies xs) ∙ omega arith

@@ -1,9 +1,8 @@
 -- The turns of Mark that go on to the next phase keep the invariant; the first of them begins the second half of marking.
 use Rattle.std.proofs.Common.{◌≡◌, ℕ, zero, suc, ◌<◌, ◌≤◌, Bool, true, false, ◌&&◌, ◌||◌, eqb, ◌≢◌, ◌⊎◌, Some, None, Option, sym, refl, ap, ◌∙◌, subst, inl, inr, ⊎_elim, arith}
 use Rattle.std.proofs.lemmas.Bool.Decides.{nat_tests}
-use Rattle.std.proofs.lemmas.Bool.{cases_eq, cases_lt, cases_Bool, and_parts, eq-eqb}
-use Rattle.cells.specs.declared.Colour.{Colour}
-use Rattle.cells.specs.declared.Colour.TheVariants.{Blue, White, Grey, Black}
+use Rattle.std.proofs.lemmas.Bool.{cases_eq, cases_lt, cases_Bool, and_parts, eq-eqb, or_left, or_right}
+use Rattle.cells.specs.declared.Colour.TheVariants.{Grey, Black}
 use Rattle.bags.specs.Holding.{copies}
 use Rattle.rules.specs.declared.Status.{Status}
 use Rattle.rules.specs.declared.Status.TheVariants.{Async, Sync1, Sync2}
@@ -22,6 +21,8 @@ use Rattle.rules.proofs.Invariant.{Control, MarksFirst, MarksSecond, Invariant}
 use Rattle.rules.proofs.Touched.{in_hand_or_not, kept_used, traced_used, shaded_kept}
 use Rattle.rules.proofs.Handshaking.{all_agree_lem, traces_same}
 use Rattle.rules.proofs.Marking.{marking_turn, second_goes_on}
+use Rattle.rules.proofs.Greyings.{black_or_not, shaded_colour}
+use Rattle.rules.proofs.Slots.{slot_below}
 
 -- whether an unfinished change of one of the first k slots is to write link i of x
 abbrev changes : Option Work → ℕ → ℕ → Bool
@@ -46,8 +47,8 @@ pub record Changing (tasks : ℕ → Option Task) (x i : ℕ) : Type 0 where
   pub work : task.work ≡ Some (Change x i value step)
 
 changing_of : (tasks : ℕ → Option Task) (k : ℕ) (t : Task) (w : Option Work) (x i : ℕ) → tasks k ≡ Some t → t.work ≡ w → changes w x i ≡ true → Changing tasks x i
-changing_of tasks k t None x i p q e = let z : ◌≡◌ {A = ℕ} 0 1 = cc in absurd (omega arith)
-changing_of tasks k t (Some (Making y settled)) x i p q e = let z : ◌≡◌ {A = ℕ} 0 1 = cc in absurd (omega arith)
+changing_of tasks k t None x i p q e = cc
+changing_of tasks k t (Some (Making y settled)) x i p q e = cc
 changing_of tasks k t (Some (Change y j v step)) x i p q e =
     let both = and_parts (eqb y x) (eqb j i) e in
     let same-cell : y ≡ x = grind (arith, nat_tests, both.0) in
@@ -59,42 +60,23 @@ or_parts true b e = inl refl
 or_parts false b e = inr e
 
 changing_found : (k : ℕ) (tasks : ℕ → Option Task) (x i : ℕ) → under_change k tasks x i ≡ true → Changing tasks x i
-changing_found zero tasks x i e = let z : ◌≡◌ {A = ℕ} 0 1 = cc in absurd (omega arith)
+changing_found zero tasks x i e = cc
 changing_found (suc k) tasks x i e = ⊎_elim
     (λ (h : changes_in (tasks k) x i ≡ true). here (tasks k) refl h)
     (λ (h : under_change k tasks x i ≡ true). changing_found k tasks x i h)
     (or_parts (changes_in (tasks k) x i) (under_change k tasks x i) e)
   where
     here : (o : Option Task) → tasks k ≡ o → changes_in o x i ≡ true → Changing tasks x i
-    here None p h = let z : ◌≡◌ {A = ℕ} 0 1 = cc in absurd (omega arith)
+    here None p h = cc
     here (Some t) p h = changing_of tasks k t t.work x i p refl h
-
-or_first : (a b : Bool) → a ≡ true → (a || b) ≡ true
-or_first a b e = grind (arith, nat_tests)
-
-or_second : (a b : Bool) → b ≡ true → (a || b) ≡ true
-or_second true b e = refl
-or_second false b e = e
 
 changing_told : (k : ℕ) (tasks : ℕ → Option Task) (m x i : ℕ) (v : Option ℕ) (step : Step) (t : Task) → m < k → tasks m ≡ Some t → t.work ≡ Some (Change x i v step) → under_change k tasks x i ≡ true
 changing_told zero tasks m x i v step t l p q = absurd (omega arith)
 changing_told (suc k) tasks m x i v step t l p q = ⊎_elim
-    (λ (e : m ≡ k). or_first (changes_in (tasks k) x i) _
+    (λ (e : m ≡ k). or_left (changes_in (tasks k) x i) _
     (ap (λ o. changes_in o x i) (ap tasks (sym e) ∙ p) ∙ ap (λ w. changes w x i) q ∙ ap (λ b. b && eqb i i) (eq-eqb x x refl) ∙ eq-eqb i i refl))
-    (λ (n : m ≡ k → ⊥). or_second (changes_in (tasks k) x i) _ (changing_told k tasks m x i v step t (omega arith) p q))
+    (λ (n : m ≡ k → ⊥). or_right (changes_in (tasks k) x i) _ (changing_told k tasks m x i v step t (omega arith) p q))
     (cases_eq m k)
-
-black_or_not : (x : Colour) → (x ≡ Black) ⊎ (x ≢ Black)
-black_or_not Black = inl refl
-black_or_not Blue = inr (λ e. let z : ◌≡◌ {A = ℕ} 0 1 = cc in omega arith)
-black_or_not White = inr (λ e. let z : ◌≡◌ {A = ℕ} 0 1 = cc in omega arith)
-black_or_not Grey = inr (λ e. let z : ◌≡◌ {A = ℕ} 0 1 = cc in omega arith)
-
-shaded_colour : (x : Colour) → is_shaded x ≡ true → (x ≡ Grey) ⊎ (x ≡ Black)
-shaded_colour Grey e = inl refl
-shaded_colour Black e = inr refl
-shaded_colour Blue e = let z : ◌≡◌ {A = ℕ} 0 1 = cc in absurd (omega arith)
-shaded_colour White e = let z : ◌≡◌ {A = ℕ} 0 1 = cc in absurd (omega arith)
 
 -- statuses and phases do not matter to what is still to be traced
 abbrev rephased : Collector → Status → Status → Collector
@@ -131,10 +113,10 @@ module _ (s : State) (I : Invariant s) (e : s.collector.stage ≡ Mark) (agree :
   control_on status later =
       let K = I.control in
       record {
-        places = placed e refl refl (K.places.mark e) (K.places.unscanned (λ q. let z : ◌≡◌ {A = ℕ} 0 1 = cc in omega arith)) (in_mark (inr (status, later)));
+        places = placed e refl refl (K.places.mark e) (K.places.unscanned (λ q. cc)) (in_mark (inr (status, later)));
         nothing_traced = λ n o u. n e;
         statuses = λ m t p. inr (agreed m t p);
-        scan_looked = λ q u k r. let z : ◌≡◌ {A = ℕ} 0 1 = cc in absurd (omega arith);
+        scan_looked = λ q u k r. cc;
       }
 
   phase_turn : (status : after_sync s.collector.status ≡ Async) → s.collector.status ≢ Sync1 → (Cut : ℕ → ℕ → Bool) → (SecondHalf s' → MarksSecond s' Cut) → Invariant s'
@@ -149,14 +131,8 @@ module _ (s : State) (I : Invariant s) (e : s.collector.stage ≡ Mark) (agree :
     F : MarksFirst s
     F = I.first_half half
 
-    below_eight : (m : ℕ) (t : Task) → s.tasks m ≡ Some t → m < 8
-    below_eight m t p = ⊎_elim
-        (λ (l : m < 8). l)
-        (λ (l : 8 ≤ m). let none = I.structure.slots m l in let z : ◌≡◌ {A = ℕ} 0 1 = cc in absurd (omega arith))
-        (cases_lt m 8)
-
     not_async : {A : Type 0} (m : ℕ) (t : Task) → s.tasks m ≡ Some t → t.status ≡ Async → A
-    not_async m t p q = let r = agreed m t p ∙ asked in let z : ◌≡◌ {A = ℕ} 0 1 = cc in absurd (omega arith)
+    not_async m t p q = let r = agreed m t p ∙ asked in cc
 
     used_shaded : (c : ℕ) → Used s c → Shaded s c → Marked s' cut c
     used_shaded c u h = inl (shaded_kept s I u h)
@@ -173,7 +149,7 @@ module _ (s : State) (I : Invariant s) (e : s.collector.stage ≡ Mark) (agree :
         used_shaded c (along (cut_cell_used x i q) (i, n)) (F.changed_link a.slot x i c a.value a.step a.task a.present a.work (agreed a.slot a.task a.present ∙ asked) n)
 
     not_scanning : {A : Type 0} → s.collector.stage ≡ Scan → A
-    not_scanning q = let z : ◌≡◌ {A = ℕ} 0 1 = cc in absurd (omega arith)
+    not_scanning q = cc
 
     abbrev follows : (x i c : ℕ) → s.cells.link x i ≡ Some c → cut x i ≡ false → s.cells.colour c ≢ Black → Follows s' cut x c
     follows x i c n q b = record { link = i; names = n; uncut = q; not_black = b; not_at_scan = λ a. not_scanning a.0 }
@@ -231,18 +207,18 @@ module _ (s : State) (I : Invariant s) (e : s.collector.stage ≡ Mark) (agree :
       directory = directory_marked;
       cut_names = cut_link;
       cut_cell = λ x i q. let a = I.safe x (cut_cell_used x i q) in (a.1, a.2);
-      sync_cut = λ m x i y step t p q g. changing_told 8 s.tasks m x i y step t (below_eight m t p) p q;
-      store_cut = λ m x i y t p q. changing_told 8 s.tasks m x i y _ t (below_eight m t p) p q;
-      warn_cut = λ m x i old y t p q. inl (changing_told 8 s.tasks m x i y _ t (below_eight m t p) p q);
+      sync_cut = λ m x i y step t p q g. changing_told 8 s.tasks m x i y step t (slot_below I.structure.slots m t p) p q;
+      store_cut = λ m x i y t p q. changing_told 8 s.tasks m x i y _ t (slot_below I.structure.slots m t p) p q;
+      warn_cut = λ m x i old y t p q. inl (changing_told 8 s.tasks m x i y _ t (slot_below I.structure.slots m t p) p q);
     }
 
     pub second_half_kept : Invariant s'
-    second_half_kept = phase_turn (ap after_sync asked) (λ q. let z : ◌≡◌ {A = ℕ} 0 1 = cc in omega arith) cut (λ h. second_begun)
+    second_half_kept = phase_turn (ap after_sync asked) (λ q. cc) cut (λ h. second_begun)
 
   -- to Async: the second half goes on
   module _ (asked : s.collector.status ≡ Async) (half : SecondHalf s) where
     pub last_phase_kept : Invariant s'
-    last_phase_kept = phase_turn (ap after_sync asked) (λ q. let z : ◌≡◌ {A = ℕ} 0 1 = cc in omega arith) I.Cut
+    last_phase_kept = phase_turn (ap after_sync asked) (λ q. cc) I.Cut
         (λ h. second_goes_on s I s.cells.colour s.cache s'.collector (λ c. inl refl) half (λ c. inl refl) I.sweeps.cached I.sweeps.in_hand
         (λ c t. inr (rephased_traced s (after_sync s.collector.status) s.collector.status I.Cut t)))
 

@@ -1,5 +1,5 @@
 -- What stage, statuses, sweep and scan of the collector can be together, over a table of n cells.
-use Rattle.std.proofs.Common.{◌≡◌, ℕ, ◌<◌, ◌≤◌, ◌≢◌, ◌⊎◌, sym, refl, subst₂, arith, Some, None, Option}
+use Rattle.std.proofs.Common.{◌≡◌, ℕ, ◌<◌, ◌≤◌, ◌≢◌, ◌⊎◌, sym, refl, subst₂, Some, None, Option}
 use mathlib.Core.Path.{subst₃}
 use Rattle.rules.specs.declared.Status.{Status}
 use Rattle.rules.specs.declared.Status.TheVariants.{Async, Sync1, Sync2}
@@ -23,63 +23,63 @@ pub record Places (stage : Stage) (asked phase : Status) (swept : Swept) (scanne
 pub in_rest : {n : ℕ} → Places Rest Async Async Past None n
 in_rest = record {
   rest = λ e. (refl, refl, refl);
-  clear = λ e. let z : ◌≡◌ {A = ℕ} 0 1 = cc in absurd (omega arith);
-  mark = λ e. let z : ◌≡◌ {A = ℕ} 0 1 = cc in absurd (omega arith);
-  mark_statuses = λ e. let z : ◌≡◌ {A = ℕ} 0 1 = cc in absurd (omega arith);
-  scan = λ e. let z : ◌≡◌ {A = ℕ} 0 1 = cc in absurd (omega arith);
-  scan_place = λ e. let z : ◌≡◌ {A = ℕ} 0 1 = cc in absurd (omega arith);
-  sweep = λ e. let z : ◌≡◌ {A = ℕ} 0 1 = cc in absurd (omega arith);
-  sweep_place = λ e. let z : ◌≡◌ {A = ℕ} 0 1 = cc in absurd (omega arith);
+  clear = λ e. cc;
+  mark = λ e. cc;
+  mark_statuses = λ e. cc;
+  scan = λ e. cc;
+  scan_place = λ e. cc;
+  sweep = λ e. cc;
+  sweep_place = λ e. cc;
   unscanned = λ n. refl;
 }
 
 pub in_clear : {n : ℕ} → Places Clear Sync1 Async Past None n
 in_clear = record {
-  rest = λ e. let z : ◌≡◌ {A = ℕ} 0 1 = cc in absurd (omega arith);
+  rest = λ e. cc;
   clear = λ e. (refl, refl, refl);
-  mark = λ e. let z : ◌≡◌ {A = ℕ} 0 1 = cc in absurd (omega arith);
-  mark_statuses = λ e. let z : ◌≡◌ {A = ℕ} 0 1 = cc in absurd (omega arith);
-  scan = λ e. let z : ◌≡◌ {A = ℕ} 0 1 = cc in absurd (omega arith);
-  scan_place = λ e. let z : ◌≡◌ {A = ℕ} 0 1 = cc in absurd (omega arith);
-  sweep = λ e. let z : ◌≡◌ {A = ℕ} 0 1 = cc in absurd (omega arith);
-  sweep_place = λ e. let z : ◌≡◌ {A = ℕ} 0 1 = cc in absurd (omega arith);
+  mark = λ e. cc;
+  mark_statuses = λ e. cc;
+  scan = λ e. cc;
+  scan_place = λ e. cc;
+  sweep = λ e. cc;
+  sweep_place = λ e. cc;
   unscanned = λ n. refl;
 }
 
 pub in_mark : {asked phase : Status} {n : ℕ} → ((asked ≡ Sync2) × (phase ≡ Sync1)) ⊎ ((asked ≡ Async) × (phase ≢ Sync1)) → Places Mark asked phase Before None n
 in_mark statuses = record {
-  rest = λ e. let z : ◌≡◌ {A = ℕ} 0 1 = cc in absurd (omega arith);
-  clear = λ e. let z : ◌≡◌ {A = ℕ} 0 1 = cc in absurd (omega arith);
+  rest = λ e. cc;
+  clear = λ e. cc;
   mark = λ e. refl;
   mark_statuses = λ e. statuses;
-  scan = λ e. let z : ◌≡◌ {A = ℕ} 0 1 = cc in absurd (omega arith);
-  scan_place = λ e. let z : ◌≡◌ {A = ℕ} 0 1 = cc in absurd (omega arith);
-  sweep = λ e. let z : ◌≡◌ {A = ℕ} 0 1 = cc in absurd (omega arith);
-  sweep_place = λ e. let z : ◌≡◌ {A = ℕ} 0 1 = cc in absurd (omega arith);
+  scan = λ e. cc;
+  scan_place = λ e. cc;
+  sweep = λ e. cc;
+  sweep_place = λ e. cc;
   unscanned = λ n. refl;
 }
 
 pub in_scan : {k n : ℕ} → k ≤ n → Places Scan Async Async Before (Some k) n
 in_scan {k} inside = record {
-  rest = λ e. let z : ◌≡◌ {A = ℕ} 0 1 = cc in absurd (omega arith);
-  clear = λ e. let z : ◌≡◌ {A = ℕ} 0 1 = cc in absurd (omega arith);
-  mark = λ e. let z : ◌≡◌ {A = ℕ} 0 1 = cc in absurd (omega arith);
-  mark_statuses = λ e. let z : ◌≡◌ {A = ℕ} 0 1 = cc in absurd (omega arith);
+  rest = λ e. cc;
+  clear = λ e. cc;
+  mark = λ e. cc;
+  mark_statuses = λ e. cc;
   scan = λ e. (refl, refl, refl);
   scan_place = λ e. (k, (refl, inside));
-  sweep = λ e. let z : ◌≡◌ {A = ℕ} 0 1 = cc in absurd (omega arith);
-  sweep_place = λ e. let z : ◌≡◌ {A = ℕ} 0 1 = cc in absurd (omega arith);
+  sweep = λ e. cc;
+  sweep_place = λ e. cc;
   unscanned = λ n. absurd (n refl);
 }
 
 pub in_sweep : {k n : ℕ} → k < n → Places Sweep Async Async (At k) None n
 in_sweep {k} inside = record {
-  rest = λ e. let z : ◌≡◌ {A = ℕ} 0 1 = cc in absurd (omega arith);
-  clear = λ e. let z : ◌≡◌ {A = ℕ} 0 1 = cc in absurd (omega arith);
-  mark = λ e. let z : ◌≡◌ {A = ℕ} 0 1 = cc in absurd (omega arith);
-  mark_statuses = λ e. let z : ◌≡◌ {A = ℕ} 0 1 = cc in absurd (omega arith);
-  scan = λ e. let z : ◌≡◌ {A = ℕ} 0 1 = cc in absurd (omega arith);
-  scan_place = λ e. let z : ◌≡◌ {A = ℕ} 0 1 = cc in absurd (omega arith);
+  rest = λ e. cc;
+  clear = λ e. cc;
+  mark = λ e. cc;
+  mark_statuses = λ e. cc;
+  scan = λ e. cc;
+  scan_place = λ e. cc;
   sweep = λ e. (refl, refl);
   sweep_place = λ e. (k, (refl, inside));
   unscanned = λ n. refl;
@@ -90,3 +90,6 @@ pub placed : {stage stage' : Stage} {asked asked' phase phase' : Status} {swept 
     → stage ≡ stage' → asked ≡ asked' → phase ≡ phase' → swept ≡ swept' → scanned ≡ scanned' → Places stage' asked' phase' swept' scanned' n → Places stage asked phase swept scanned n
 placed {stage' = stage'} {asked' = asked'} {phase' = phase'} {swept = swept} {scanned = scanned} {n = n} a b c d e p =
     subst₃ (λ g q f. Places g q f swept scanned n) (sym a) (sym b) (sym c) (subst₂ (λ w k. Places stage' asked' phase' w k n) (sym d) (sym e) p)
+
+pub at_same : {a b : ℕ} → ◌≡◌ {A = Swept} (At a) (At b) → a ≡ b
+at_same e = cc

@@ -11,6 +11,7 @@ use Rattle.rules.proofs.Words.{directory, register}
 use Rattle.rules.proofs.Invariant.{Invariant}
 use Rattle.rules.proofs.Idling.{Fits, pool_turn}
 use Rattle.rules.proofs.TaskTurns.{kept_by}
+use Rattle.rules.proofs.Slots.{slot_has}
 
 -- an idle task with another pool
 fits_pool : (s : State) (I : Invariant s) (m : ℕ) (t : Task) (xs : List ℕ) → s.tasks m ≡ Some t → t.work ≡ None → length xs ≤ 4 → Fits s I (with_pool t xs)
@@ -36,9 +37,8 @@ reserve_kept s I m = kept_by s (reserve_checks s.directory (length s.free.member
     let was : pool_in (s.tasks m) ≡ t.pool = ap pool_in found.present in
     let keeps = left_manner k s.free in
     pool_turn s I m (below_eight s.directory m slot.0) (with_drawn k s.free (s.tasks m))
-    (λ u p. let a = found.present in let q : t ≡ u = cc in subst (λ (x : Task). x.work ≡ None) q rests)
-    (λ u p. let a = ap (with_drawn k s.free) found.present in let q : with_pool t (drawn k s.free t.pool) ≡ u = cc in
-    subst (Fits s I) q (fits_pool s I m t (drawn k s.free t.pool) found.present rests (omega (arith, drawn_count k s.free t.pool, found.many, found.place))))
+    (slot_has (λ u. u.work ≡ None) found.present rests)
+    (slot_has (Fits s I) (ap (with_drawn k s.free) found.present) (fits_pool s I m t (drawn k s.free t.pool) found.present rests (omega (arith, drawn_count k s.free t.pool, found.many, found.place))))
     (left k s.free) keeps.0 keeps.1
     (λ c. let all = drawn_copies k s.free I.structure.free_fair enough t.pool c in
     ap (λ xs. copies (left k s.free).members c + copies xs c) held ∙ all ∙ ap (λ xs. copies s.free.members c + copies xs c) (sym was)))
@@ -55,8 +55,8 @@ give_back_kept s I m = kept_by s (give_back_checks s.directory s.tasks m) _ I (�
     let keeps = puts_manner s.free (pool_in (s.tasks m)) in
     let emptied : pool_in (with_pool_of [] (s.tasks m)) ≡ [] = ap (λ o. pool_in (with_pool_of [] o)) present in
     pool_turn s I m below (with_pool_of [] (s.tasks m))
-    (λ u p. let q : t ≡ u = cc in subst (λ (x : Task). x.work ≡ None) q rests)
-    (λ u p. let a = ap (with_pool_of []) present in let q : with_pool t [] ≡ u = cc in subst (Fits s I) q (fits_pool s I m t [] present rests (omega arith)))
+    (slot_has (λ u. u.work ≡ None) present rests)
+    (slot_has (Fits s I) (ap (with_pool_of []) present) (fits_pool s I m t [] present rests (omega arith)))
     (puts s.free (pool_in (s.tasks m))) keeps.0 keeps.1
     (λ c. let all = puts_copies s.free (pool_in (s.tasks m)) I.structure.free_fair (omega (arith, I.structure.free_room)) c in
     ap (λ xs. copies (puts s.free (pool_in (s.tasks m))).members c + copies xs c) emptied ∙ omega arith))

@@ -1,5 +1,5 @@
 -- A task's reply to the collector keeps the invariant: at Sync2 its registers are shaded before it counts as a task that has replied.
-use Rattle.std.proofs.Common.{◌≡◌, ℕ, ◌<◌, ◌≤◌, Bool, true, false, cond, ◌≢◌, Some, None, Option, sym, refl, ap, subst, inl, ⊎_elim, arith}
+use Rattle.std.proofs.Common.{◌≡◌, ℕ, ◌<◌, ◌≤◌, Bool, true, false, cond, ◌≢◌, Some, None, Option, sym, refl, ap, subst, inl, ⊎_elim}
 use Rattle.std.proofs.lemmas.Bool.{cases_Bool, cases_lt, cond-true, cond-false}
 use Rattle.cells.specs.Memory.{Cells}
 use Rattle.rules.specs.declared.Status.{Status}
@@ -20,7 +20,7 @@ use Rattle.rules.proofs.Retasked.{retasked, retasked_turn}
 
 module _ (s : State) (I : Invariant s) (m : ℕ) (t : Task) (present : s.tasks m ≡ Some t) (idle : t.work ≡ None) where
   no_making : (k : ℕ) (settled : Bool) → t.work ≡ Some (Making k settled) → ⊥
-  no_making k settled e = let z : ◌≡◌ {A = ℕ} 0 1 = cc in omega arith
+  no_making k settled e = cc
 
   -- the idle task with the status that is asked for
   asked : with_status t s.collector.status ≡ retasked t s.collector.status None
@@ -36,7 +36,7 @@ module _ (s : State) (I : Invariant s) (m : ℕ) (t : Task) (present : s.tasks m
       s₁ = with_cells s (greyed_to 8 s.cells t.registers)
 
       late : t.status ≢ Async
-      late e = let z : ◌≡◌ {A = ℕ} 0 1 = cc in omega arith
+      late e = cc
 
       J : Invariant s₁
       J = subst (λ (n : Cells). Invariant (with_cells s n)) (sym (table_painted s.cells s₁.cells (greyed_to_table 8 s.cells t.registers)))
@@ -48,7 +48,7 @@ module _ (s : State) (I : Invariant s) (m : ℕ) (t : Task) (present : s.tasks m
           let k = I.safe c (start (register m j present e)) in
           ⊎_elim
           (λ (l : j < 8). greyed_to_shades 8 s.cells t.registers j c l e k.0 k.1)
-          (λ (g : 8 ≤ j). let none = I.structure.registers m j t present g in let z : ◌≡◌ {A = ℕ} 0 1 = cc in absurd (omega arith))
+          (λ (g : 8 ≤ j). let none = I.structure.registers m j t present g in cc)
           (cases_lt j 8)
 
   -- at another status nothing is greyed; in the second half the task is at Async
@@ -72,9 +72,9 @@ module _ (s : State) (I : Invariant s) (m : ℕ) (t : Task) (present : s.tasks m
       s₂ = with_task s m (Some (with_status t s.collector.status))
 
       not_same : (q : Status) → same_status q Sync2 ≡ false → q ≢ Sync2
-      not_same Async e = λ d. let z : ◌≡◌ {A = ℕ} 0 1 = cc in omega arith
-      not_same Sync1 e = λ d. let z : ◌≡◌ {A = ℕ} 0 1 = cc in omega arith
-      not_same Sync2 e = let z : ◌≡◌ {A = ℕ} 0 1 = cc in absurd (omega arith)
+      not_same Async e = λ d. cc
+      not_same Sync1 e = λ d. cc
+      not_same Sync2 e = cc
 
 pub cooperate_kept : (s : State) → Invariant s → (m : ℕ) → Invariant (cooperate m s).after
 cooperate_kept s I m = kept_by s (cooperate_checks s.directory s.tasks m) _ I (λ q e.

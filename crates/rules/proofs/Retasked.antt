@@ -1,7 +1,6 @@
 -- A task whose status or unfinished change becomes another keeps the invariant, if the new ones fit the state; it makes no cell
 -- before or after.
 use Rattle.std.proofs.Common.{◌≡◌, ℕ, ◌+◌, ◌<◌, ◌≤◌, Bool, true, false, ◌≢◌, ◌⊎◌, length, Some, None, Option, sym, refl, ap, ◌∙◌, subst, inl, inr, ⊎_elim, arith}
-use Rattle.std.proofs.lemmas.Bool.{cases_lt}
 use Rattle.cells.specs.Memory.{at}
 use Rattle.bags.specs.Holding.{copies}
 use Rattle.rules.specs.declared.Status.{Status}
@@ -14,7 +13,7 @@ use Rattle.rules.specs.State.{Task, State, with_task}
 use Rattle.rules.specs.Reach.{start, along}
 use Rattle.rules.specs.Pools.{pool_in}
 use Rattle.rules.proofs.Ways.{lead_into}
-use Rattle.rules.proofs.Slots.{at_cases, at_other, pooled_swap}
+use Rattle.rules.proofs.Slots.{at_cases, at_other, pooled_swap, slot_below}
 use Rattle.rules.proofs.Words.{MadeBy, made_by, Made, Shaded, Kept, Used, UsedRoot, directory, register, kept, filled, FirstHalf, SecondHalf, Marked}
 use Rattle.rules.proofs.Remade.{kept_on, marked_on}
 use Rattle.rules.proofs.Invariant.{Structure, Control, Works, NewCells, Sweeps, MarksFirst, MarksSecond, Invariant, Unsettled, taken}
@@ -61,7 +60,7 @@ module _ (s : State) (I : Invariant s) (m : ℕ) (t : Task) (present : s.tasks m
       (at_cases m (Some u) s.tasks k (Some v) p)
 
   within : m < 8
-  within = ⊎_elim (λ (l : m < 8). l) (λ (g : 8 ≤ m). let none = I.structure.slots m g in let z : ◌≡◌ {A = ℕ} 0 1 = cc in absurd (omega arith)) (cases_lt m 8)
+  within = slot_below I.structure.slots m t present
 
   -- what a change of the new task must meet
   change_fits : (v : Task) (x i : ℕ) (y : Option ℕ) (step : Step) → u ≡ v → v.work ≡ Some (Change x i y step) → ChangeFits s I v.registers v.status x i y step

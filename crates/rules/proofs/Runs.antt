@@ -17,22 +17,22 @@ use Rattle.rules.proofs.Collected.{Collected, collected_size, collected}
 use Rattle.rules.proofs.Cycles.{collected_leads, collected_first, collected_second, returned_first, returned_second}
 
 collect_or_not : (c : Call) → (c ≡ Collect) ⊎ (c ≢ Collect)
-collect_or_not (Enter p) = inr (λ e. let z : ◌≡◌ {A = ℕ} 0 1 = cc in omega arith)
-collect_or_not (Launch m p mask) = inr (λ e. let z : ◌≡◌ {A = ℕ} 0 1 = cc in omega arith)
-collect_or_not (Leave m) = inr (λ e. let z : ◌≡◌ {A = ℕ} 0 1 = cc in omega arith)
-collect_or_not (Point m j b) = inr (λ e. let z : ◌≡◌ {A = ℕ} 0 1 = cc in omega arith)
-collect_or_not (Move m a b) = inr (λ e. let z : ◌≡◌ {A = ℕ} 0 1 = cc in omega arith)
-collect_or_not (Clear m b) = inr (λ e. let z : ◌≡◌ {A = ℕ} 0 1 = cc in omega arith)
-collect_or_not (Load m a i b) = inr (λ e. let z : ◌≡◌ {A = ℕ} 0 1 = cc in omega arith)
-collect_or_not (Reserve m) = inr (λ e. let z : ◌≡◌ {A = ℕ} 0 1 = cc in omega arith)
-collect_or_not (GiveBack m) = inr (λ e. let z : ◌≡◌ {A = ℕ} 0 1 = cc in omega arith)
-collect_or_not (Make m) = inr (λ e. let z : ◌≡◌ {A = ℕ} 0 1 = cc in omega arith)
-collect_or_not (CarryOn m) = inr (λ e. let z : ◌≡◌ {A = ℕ} 0 1 = cc in omega arith)
-collect_or_not (Fill m i a) = inr (λ e. let z : ◌≡◌ {A = ℕ} 0 1 = cc in omega arith)
-collect_or_not (Finish m x b) = inr (λ e. let z : ◌≡◌ {A = ℕ} 0 1 = cc in omega arith)
-collect_or_not (Scrap m x) = inr (λ e. let z : ◌≡◌ {A = ℕ} 0 1 = cc in omega arith)
-collect_or_not (Change m a i b) = inr (λ e. let z : ◌≡◌ {A = ℕ} 0 1 = cc in omega arith)
-collect_or_not (Cooperate m) = inr (λ e. let z : ◌≡◌ {A = ℕ} 0 1 = cc in omega arith)
+collect_or_not (Enter p) = inr (λ e. cc)
+collect_or_not (Launch m p mask) = inr (λ e. cc)
+collect_or_not (Leave m) = inr (λ e. cc)
+collect_or_not (Point m j b) = inr (λ e. cc)
+collect_or_not (Move m a b) = inr (λ e. cc)
+collect_or_not (Clear m b) = inr (λ e. cc)
+collect_or_not (Load m a i b) = inr (λ e. cc)
+collect_or_not (Reserve m) = inr (λ e. cc)
+collect_or_not (GiveBack m) = inr (λ e. cc)
+collect_or_not (Make m) = inr (λ e. cc)
+collect_or_not (CarryOn m) = inr (λ e. cc)
+collect_or_not (Fill m i a) = inr (λ e. cc)
+collect_or_not (Finish m x b) = inr (λ e. cc)
+collect_or_not (Scrap m x) = inr (λ e. cc)
+collect_or_not (Change m a i b) = inr (λ e. cc)
+collect_or_not (Cooperate m) = inr (λ e. cc)
 collect_or_not Collect = inl refl
 
 -- what any turn leaves of the watched cells
@@ -96,7 +96,7 @@ module _ (turn_kept : (s : State) → Invariant s → (c : Call) → Invariant (
         out = λ x z. z.0;
         named_within = λ x i y z n e. (λ r. z.0 (along r (i, e)), n);
       })
-      (inl (refl, λ g. let z : ◌≡◌ {A = ℕ} 0 1 = cc in absurd (omega arith)))
+      (inl (refl, λ g. cc))
       c l (p.0, at_first _ s (Collect ∷ calls) p.1) p.1)
 
   sound : (s : State) → Invariant s → Sound s

@@ -21,14 +21,14 @@ in_sweep k x = ⊎_elim
     (cases_lt x k)
 
 pub settled_not_blue : (q : Status) (w : Swept) (x : ℕ) → settled_colour q w x ≢ Blue
-settled_not_blue Async Before x e = let z : ◌≡◌ {A = ℕ} 0 1 = cc in omega arith
+settled_not_blue Async Before x e = cc
 settled_not_blue Async (At k) x e = ⊎_elim
-    (λ a. let f = a.1 in let z : ◌≡◌ {A = ℕ} 0 1 = cc in omega arith)
-    (⊎_elim (λ a. let f = a.1 in let z : ◌≡◌ {A = ℕ} 0 1 = cc in omega arith) (λ a. let f = a.1 in let z : ◌≡◌ {A = ℕ} 0 1 = cc in omega arith))
+    (λ a. let f = a.1 in cc)
+    (⊎_elim (λ a. let f = a.1 in cc) (λ a. let f = a.1 in cc))
     (in_sweep k x)
-settled_not_blue Async Past x e = let z : ◌≡◌ {A = ℕ} 0 1 = cc in omega arith
-settled_not_blue Sync1 w x e = let z : ◌≡◌ {A = ℕ} 0 1 = cc in omega arith
-settled_not_blue Sync2 w x e = let z : ◌≡◌ {A = ℕ} 0 1 = cc in omega arith
+settled_not_blue Async Past x e = cc
+settled_not_blue Sync1 w x e = cc
+settled_not_blue Sync2 w x e = cc
 
 pub settled_white : (q : Status) (w : Swept) (x : ℕ) → q ≢ Async → settled_colour q w x ≡ White
 settled_white Async w x n = absurd (n refl)
@@ -39,24 +39,24 @@ pub settled_before : (q : Status) (w : Swept) (x : ℕ) → q ≡ Async → w �
 settled_before q w x e f = let same : settled_colour q w x ≡ settled_colour Async Before x = cc in same
 
 pub settled_past : (q : Status) (w : Swept) (x : ℕ) → w ≡ Past → settled_colour q w x ≢ Black
-settled_past Async w x e f = let same : settled_colour Async w x ≡ settled_colour Async Past x = cc in let z : ◌≡◌ {A = ℕ} 0 1 = cc in omega arith
-settled_past Sync1 w x e f = let z : ◌≡◌ {A = ℕ} 0 1 = cc in omega arith
-settled_past Sync2 w x e f = let z : ◌≡◌ {A = ℕ} 0 1 = cc in omega arith
+settled_past Async w x e f = let same : settled_colour Async w x ≡ settled_colour Async Past x = cc in cc
+settled_past Sync1 w x e f = cc
+settled_past Sync2 w x e f = cc
 
 pub settled_passed : (q : Status) (w : Swept) (k x : ℕ) → w ≡ At k → x ≤ k → settled_colour q w x ≢ Black
 settled_passed Async w k x e l f =
     let same : settled_colour Async w x ≡ settled_colour Async (At k) x = cc in
     ⊎_elim
-    (λ a. let g = a.1 in let z : ◌≡◌ {A = ℕ} 0 1 = cc in omega arith)
-    (⊎_elim (λ a. let g = a.1 in let z : ◌≡◌ {A = ℕ} 0 1 = cc in omega arith) (λ a. omega (arith, a.0)))
+    (λ a. let g = a.1 in cc)
+    (⊎_elim (λ a. let g = a.1 in cc) (λ a. omega (arith, a.0)))
     (in_sweep k x)
-settled_passed Sync1 w k x e l f = let z : ◌≡◌ {A = ℕ} 0 1 = cc in omega arith
-settled_passed Sync2 w k x e l f = let z : ◌≡◌ {A = ℕ} 0 1 = cc in omega arith
+settled_passed Sync1 w k x e l f = cc
+settled_passed Sync2 w k x e l f = cc
 
 pub settled_ahead : (q : Status) (w : Swept) (k x : ℕ) → q ≡ Async → w ≡ At k → settled_colour q w x ≡ White → x < k
 settled_ahead q w k x e f g =
     let same : settled_colour q w x ≡ settled_colour Async (At k) x = cc in
     ⊎_elim
     (λ a. a.0)
-    (⊎_elim (λ a. let h = a.1 in let z : ◌≡◌ {A = ℕ} 0 1 = cc in absurd (omega arith)) (λ a. let h = a.1 in let z : ◌≡◌ {A = ℕ} 0 1 = cc in absurd (omega arith)))
+    (⊎_elim (λ a. let h = a.1 in cc) (λ a. let h = a.1 in cc))
     (in_sweep k x)

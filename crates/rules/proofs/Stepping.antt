@@ -1,8 +1,8 @@
 -- The turns that carry a change on keep the invariant: the grey of its new value, its warning, and its store.
-use Rattle.std.proofs.Common.{◌≡◌, ℕ, Bool, true, false, leb, ◌≢◌, Some, None, Option, sym, refl, ap, ◌∙◌, subst, inl, ⊎_elim, arith}
+use Rattle.std.proofs.Common.{◌≡◌, ℕ, Bool, true, false, leb, ◌≢◌, Some, None, Option, sym, ap, ◌∙◌, subst, inl, ⊎_elim}
 use Rattle.std.proofs.lemmas.Bool.{cases_Bool, cond-true, leb-false, or_left, or_right}
 use Rattle.cells.specs.declared.Colour.{Colour}
-use Rattle.cells.specs.declared.Colour.TheVariants.{Blue, White, Grey, Black}
+use Rattle.cells.specs.declared.Colour.TheVariants.{Grey, Black}
 use Rattle.cells.specs.Memory.{Cells, settable, relinked, linked}
 use Rattle.rules.specs.declared.Step.{Step}
 use Rattle.rules.specs.declared.Step.TheVariants.{Grey as GreyStep, Warn, Store}
@@ -20,12 +20,10 @@ use Rattle.rules.proofs.Shading.{greyed_if_shades, greyed_if_turn}
 use Rattle.rules.proofs.Retasked.{ChangeFits, retasked_turn}
 use Rattle.rules.proofs.Warnings.{warned_turn}
 use Rattle.rules.proofs.Stores.{takes, stored_turn}
+use Rattle.rules.proofs.Greyings.{shaded_colour}
 
 pub shaded_grey : (k : Colour) → is_shaded k ≡ true → k ≢ Black → k ≡ Grey
-shaded_grey Blue h n = let z : ◌≡◌ {A = ℕ} 0 1 = cc in absurd (omega arith)
-shaded_grey White h n = let z : ◌≡◌ {A = ℕ} 0 1 = cc in absurd (omega arith)
-shaded_grey Grey h n = refl
-shaded_grey Black h n = absurd (n refl)
+shaded_grey k h n = ⊎_elim (λ g. g) (λ b. absurd (n b)) (shaded_colour k h)
 
 module _ (s : State) (I : Invariant s) (m : ℕ) (t : Task) (present : s.tasks m ≡ Some t) (x i : ℕ) (y : Option ℕ) where
   -- the slot's task with other work, as the rules write it
@@ -34,7 +32,7 @@ module _ (s : State) (I : Invariant s) (m : ℕ) (t : Task) (present : s.tasks m
 
   module _ (step : Step) (work : t.work ≡ Some (Change x i y step)) where
     no_making : (k : ℕ) (a : Bool) → t.work ≡ Some (Making k a) → ⊥
-    no_making k a e = let z : ◌≡◌ {A = ℕ} 0 1 = cc in omega arith
+    no_making k a e = cc
 
     value_held : (c : ℕ) → y ≡ Some c → (j : ℕ) × (t.registers j ≡ Some c)
     value_held c e = I.works.value_held m x i c step t present (work ∙ ap (λ v. Some (Change x i v step)) e)
@@ -53,13 +51,13 @@ module _ (s : State) (I : Invariant s) (m : ℕ) (t : Task) (present : s.tasks m
         cell_held = I.works.cell_held m x i y GreyStep t present work;
         value_held = value_held GreyStep work;
         link_there = I.works.link_there m x i y GreyStep t present work;
-        grey_step = λ e. let z : ◌≡◌ {A = ℕ} 0 1 = cc in absurd (omega arith);
-        warn_step = λ old e. let z : ◌≡◌ {A = ℕ} 0 1 = cc in absurd (omega arith);
+        grey_step = λ e. cc;
+        warn_step = λ old e. cc;
         new_value = λ e n c q. let a = I.safe c (used_value GreyStep work c q) in greyed_if_shades s.cells y c q a.0 a.1;
         changed_link = λ h g c e. (J.first_half h).changed_link m x i c y GreyStep t present work g e;
         sync_cut = λ h g. (J.second_half h).sync_cut m x i y GreyStep t present work g;
         store_cut = λ h e. (J.second_half h).sync_cut m x i y GreyStep t present work (second_sync2 s I m t present h late);
-        warn_cut = λ h old e. let z : ◌≡◌ {A = ℕ} 0 1 = cc in absurd (omega arith);
+        warn_cut = λ h old e. cc;
       } in
       subst (λ o. Invariant (with_cells (with_task s m o) (greyed_if s.cells y))) (sym (rewritten (Some (Change x i y Store))))
       (retasked_turn (with_cells s (greyed_if s.cells y)) J m t present (no_making GreyStep work) t.status (Some (Change x i y Store))
@@ -74,10 +72,10 @@ module _ (s : State) (I : Invariant s) (m : ℕ) (t : Task) (present : s.tasks m
         cell_held = held;
         value_held = value_held (Warn old) work;
         link_there = I.works.link_there m x i y (Warn old) t present work;
-        grey_step = λ e. let z : ◌≡◌ {A = ℕ} 0 1 = cc in absurd (omega arith);
-        warn_step = λ o e. let z : ◌≡◌ {A = ℕ} 0 1 = cc in absurd (omega arith);
+        grey_step = λ e. cc;
+        warn_step = λ o e. cc;
         new_value = λ e n c q. absurd (n prompt);
-        changed_link = λ h g c e. let z : ◌≡◌ {A = ℕ} 0 1 = cc in absurd (omega arith);
+        changed_link = λ h g c e. cc;
         sync_cut = λ h g. cut.1;
         store_cut = λ h e. cut.1;
         warn_cut = λ h o e. inl cut.1;
@@ -115,7 +113,7 @@ module _ (s : State) (I : Invariant s) (m : ℕ) (t : Task) (present : s.tasks m
 
       starts : SecondHalf s₁ → (c : ℕ) → J.Cut x i ≡ false → s.cells.link x i ≡ Some c → s.cells.colour c ≢ Black → Pending s₁ c
       starts h c uncut e n = ⊎_elim
-          (λ (was : J.Cut x i ≡ true). let z : ◌≡◌ {A = ℕ} 0 1 = cc in absurd (omega arith))
+          (λ (was : J.Cut x i ≡ true). cc)
           (λ (r : (s.cells.link x i ≡ Some old) × Shaded s old).
           let a = r.0 in
           let same : old ≡ c = cc in

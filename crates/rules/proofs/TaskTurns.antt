@@ -4,15 +4,15 @@ use Rattle.std.proofs.lemmas.Bool.{ltb-true}
 use Rattle.rules.specs.declared.Status.{Status}
 use Rattle.rules.specs.declared.Status.TheVariants.{Async, Sync1, Sync2}
 use Rattle.rules.specs.declared.Refusal.{Refusal}
-use Rattle.rules.specs.declared.Refusal.TheVariants.{NoTask, SlotTaken, RegisterEmpty}
+use Rattle.rules.specs.declared.Refusal.TheVariants.{NoTask, SlotTaken}
 use Rattle.rules.specs.State.{Task, State, Outcome, by, with_task, with_register, has_slot, is_register, is_idle}
-use Rattle.rules.specs.Tasks.{new_task, vacant, with_held, is_empty, cell_in, enter, leave, point, move, clear, load, enter_checks, leave_checks, point_checks, move_checks, clear_checks, load_checks}
+use Rattle.rules.specs.Tasks.{new_task, vacant, with_held, is_empty, enter, leave, point, move, clear, load, enter_checks, leave_checks, point_checks, move_checks, clear_checks, load_checks}
 use Rattle.rules.specs.Pools.{pool_in}
 use Rattle.rules.specs.Greying.{same_status}
 use Rattle.rules.specs.Handshake.{bit, launched, launch, launch_checks, launch_from}
 use Rattle.rules.specs.Reach.{start, along}
-use Rattle.rules.proofs.Checked.{need_passed, idle_passed, ok_same, below_eight, is_idle_lem}
-use Rattle.rules.proofs.Slots.{at_cases, at_other}
+use Rattle.rules.proofs.Checked.{need_passed, idle_passed, ok_same, below_eight, is_idle_lem, cell_is}
+use Rattle.rules.proofs.Slots.{at_cases, at_other, slot_has}
 use Rattle.rules.proofs.Words.{Used, directory, register, SecondHalf, Marked}
 use Rattle.rules.proofs.Invariant.{Invariant}
 use Rattle.rules.proofs.Idling.{Fits, idle_turn}
@@ -26,13 +26,10 @@ kept_by s (Err e) done I f = I
 held_turn : (s : State) (I : Invariant s) (m : ℕ) (t : Task) (b : ℕ) (v : Option ℕ) → m < 8 → b < 8 → s.tasks m ≡ Some t → t.work ≡ None
     → ((c : ℕ) → v ≡ Some c → Used s c) → (SecondHalf s → t.status ≡ Async → (c : ℕ) → v ≡ Some c → Marked s I.Cut c)
     → Invariant (with_task s m (with_held (s.tasks m) b v))
-held_turn s I m t b v slot place present idle used marked = idle_turn s I m slot (with_held (s.tasks m) b v) was fits pool
+held_turn s I m t b v slot place present idle used marked = idle_turn s I m slot (with_held (s.tasks m) b v) (slot_has (λ u. u.work ≡ None) present idle) (slot_has (Fits s I) is_new fits_new) pool
   where
     is_new : with_held (s.tasks m) b v ≡ Some (with_register t b v)
     is_new = ap (λ o. with_held o b v) present
-
-    was : (u : Task) → s.tasks m ≡ Some u → u.work ≡ None
-    was u p = let same : t ≡ u = cc in subst (λ (x : Task). x.work ≡ None) same idle
 
     fits_new : Fits s I (with_register t b v)
     fits_new = record {
@@ -43,9 +40,6 @@ held_turn s I m t b v slot place present idle used marked = idle_turn s I m slot
       used = λ j c q. ⊎_elim (λ e. used c e.1) (λ e. start (register m j present e.1)) (at_cases b v t.registers j (Some c) q);
       marked = λ half g j c q. ⊎_elim (λ e. marked half g c e.1) (λ e. (I.second_half half).registers m j c t present g e.1) (at_cases b v t.registers j (Some c) q);
     }
-
-    fits : (u : Task) → with_held (s.tasks m) b v ≡ Some u → Fits s I u
-    fits u p = let same : with_register t b v ≡ u = cc in subst (Fits s I) same fits_new
 
     pool : pool_in (with_held (s.tasks m) b v) ≡ pool_in (s.tasks m)
     pool = ap pool_in is_new ∙ sym (ap pool_in present)
@@ -79,11 +73,7 @@ clear_kept s I m b = kept_by s (clear_checks s.directory s.tasks m b) _ I (λ v 
     let found = idle_passed (s.tasks m) _ v place.1 in
     let is = ok_same found.1.2 in
     held_turn s I m found.0 b v (below_eight s.directory m slot.0) (ltb-true b 8 place.0) found.1.0 (is_idle_lem _ found.1.1)
-    (λ c q. let z : ◌≡◌ {A = ℕ} 0 1 = cc in absurd (omega arith)) (λ half g c q. let z : ◌≡◌ {A = ℕ} 0 1 = cc in absurd (omega arith)))
-
-cell_is : (o : Option ℕ) (x : ℕ) → Ok x ≡ cell_in o → o ≡ Some x
-cell_is None x e = let f : ◌≡◌ {A = Result ℕ Refusal} (Ok x) (Err RegisterEmpty) = e in let z : ◌≡◌ {A = ℕ} 0 1 = cc in absurd (omega arith)
-cell_is (Some y) x e = ap Some (sym (ok_same e))
+    (λ c q. cc) (λ half g c q. cc))
 
 pub load_kept : (s : State) → Invariant s → (m a i b : ℕ) → Invariant (load m a i b s).after
 load_kept s I m a i b = kept_by s (load_checks s.directory s.links s.tasks m a i b) _ I (λ x e.
@@ -98,17 +88,14 @@ load_kept s I m a i b = kept_by s (load_checks s.directory s.links s.tasks m a i
 
 is_vacant : (o : Option Task) → Ok tt ≡ vacant o → o ≡ None
 is_vacant None e = refl
-is_vacant (Some t) e = let f : ◌≡◌ {A = Result (Unit {0}) Refusal} (Ok tt) (Err SlotTaken) = e in let z : ◌≡◌ {A = ℕ} 0 1 = cc in absurd (omega arith)
+is_vacant (Some t) e = let f : ◌≡◌ {A = Result (Unit {0}) Refusal} (Ok tt) (Err SlotTaken) = e in cc
 
 -- a task in a slot that was vacant
 new_turn : (s : State) (I : Invariant s) (p : ℕ) (u : Task) → p < 8 → s.tasks p ≡ None → u.pool ≡ [] → Fits s I u → Invariant (with_task s p (Some u))
-new_turn s I p u slot none empty fits_new = idle_turn s I p slot (Some u) was fits (empty ∙ sym (ap pool_in none))
+new_turn s I p u slot none empty fits_new = idle_turn s I p slot (Some u) was (slot_has (Fits s I) refl fits_new) (empty ∙ sym (ap pool_in none))
   where
     was : (t : Task) → s.tasks p ≡ Some t → t.work ≡ None
-    was t q = let z : ◌≡◌ {A = ℕ} 0 1 = cc in absurd (omega arith)
-
-    fits : (t : Task) → Some u ≡ Some t → Fits s I t
-    fits t q = let same : u ≡ t = cc in subst (Fits s I) same fits_new
+    was t q = cc
 
 pub enter_kept : (s : State) → Invariant s → (p : ℕ) → Invariant (enter p s).after
 enter_kept s I p = kept_by s (enter_checks s.directory s.tasks p) _ I (λ x e.
@@ -119,13 +106,13 @@ enter_kept s I p = kept_by s (enter_checks s.directory s.tasks p) _ I (λ x e.
       status = inl refl;
       few = λ j g. refl;
       pool = omega arith;
-      used = λ j c q. let z : ◌≡◌ {A = ℕ} 0 1 = cc in absurd (omega arith);
-      marked = λ half g j c q. let z : ◌≡◌ {A = ℕ} 0 1 = cc in absurd (omega arith);
+      used = λ j c q. cc;
+      marked = λ half g j c q. cc;
     }))
 
 is_empty_lem : (xs : List ℕ) → is_empty xs ≡ true → xs ≡ []
 is_empty_lem [] e = refl
-is_empty_lem (x ∷ xs) e = let z : ◌≡◌ {A = ℕ} 0 1 = cc in absurd (omega arith)
+is_empty_lem (x ∷ xs) e = cc
 
 pub leave_kept : (s : State) → Invariant s → (m : ℕ) → Invariant (leave m s).after
 leave_kept s I m = kept_by s (leave_checks s.directory s.tasks m) _ I (λ x e.
@@ -134,19 +121,19 @@ leave_kept s I m = kept_by s (leave_checks s.directory s.tasks m) _ I (λ x e.
     let empty = is_empty_lem _ (need_passed (is_empty found.0.pool) _ _ x found.1.2).0 in
     let present = found.1.0 in
     idle_turn s I m (below_eight s.directory m slot.0) None
-    (λ t p. let same : found.0 ≡ t = cc in subst (λ (u : Task). u.work ≡ None) same (is_idle_lem _ found.1.1))
-    (λ u p. let z : ◌≡◌ {A = ℕ} 0 1 = cc in absurd (omega arith))
+    (slot_has (λ u. u.work ≡ None) present (is_idle_lem _ found.1.1))
+    (λ u p. cc)
     (sym (ap pool_in present ∙ empty)))
 
 pub same_status_lem : (a b : Status) → same_status a b ≡ true → a ≡ b
 same_status_lem Async Async e = refl
-same_status_lem Async Sync1 e = let z : ◌≡◌ {A = ℕ} 0 1 = cc in absurd (omega arith)
-same_status_lem Async Sync2 e = let z : ◌≡◌ {A = ℕ} 0 1 = cc in absurd (omega arith)
-same_status_lem Sync1 Async e = let z : ◌≡◌ {A = ℕ} 0 1 = cc in absurd (omega arith)
+same_status_lem Async Sync1 e = cc
+same_status_lem Async Sync2 e = cc
+same_status_lem Sync1 Async e = cc
 same_status_lem Sync1 Sync1 e = refl
-same_status_lem Sync1 Sync2 e = let z : ◌≡◌ {A = ℕ} 0 1 = cc in absurd (omega arith)
-same_status_lem Sync2 Async e = let z : ◌≡◌ {A = ℕ} 0 1 = cc in absurd (omega arith)
-same_status_lem Sync2 Sync1 e = let z : ◌≡◌ {A = ℕ} 0 1 = cc in absurd (omega arith)
+same_status_lem Sync1 Sync2 e = cc
+same_status_lem Sync2 Async e = cc
+same_status_lem Sync2 Sync1 e = cc
 same_status_lem Sync2 Sync2 e = refl
 
 -- the parent, idle and of the status that is asked for, and a vacant slot
@@ -157,16 +144,16 @@ record Launches (asked : Status) (parent new : Option Task) : Type 0 where
   status : task.status ≡ asked
 
 launch_found : (asked : Status) (parent new : Option Task) → Ok tt ≡ launch_from asked parent new → Launches asked parent new
-launch_found asked None new e = let f : ◌≡◌ {A = Result (Unit {0}) Refusal} (Ok tt) (Err NoTask) = e in let z : ◌≡◌ {A = ℕ} 0 1 = cc in absurd (omega arith)
-launch_found asked (Some t) (Some u) e = let f : ◌≡◌ {A = Result (Unit {0}) Refusal} (Ok tt) (Err SlotTaken) = e in let z : ◌≡◌ {A = ℕ} 0 1 = cc in absurd (omega arith)
+launch_found asked None new e = let f : ◌≡◌ {A = Result (Unit {0}) Refusal} (Ok tt) (Err NoTask) = e in cc
+launch_found asked (Some t) (Some u) e = let f : ◌≡◌ {A = Result (Unit {0}) Refusal} (Ok tt) (Err SlotTaken) = e in cc
 launch_found asked (Some t) None e =
     let idle = need_passed (is_idle t.work) _ _ tt e in
     let same = need_passed (same_status t.status asked) _ _ tt idle.1 in
     record { task = t; present = refl; free = refl; status = same_status_lem t.status asked same.0 }
 
-chosen_is : (b : Bool) (o : Option ℕ) (c : ℕ) → cond b o None ≡ Some c → o ≡ Some c
+pub chosen_is : (b : Bool) (o : Option ℕ) (c : ℕ) → cond b o None ≡ Some c → o ≡ Some c
 chosen_is true o c e = e
-chosen_is false o c e = let z : ◌≡◌ {A = ℕ} 0 1 = cc in absurd (omega arith)
+chosen_is false o c e = cc
 
 chosen_none : (b : Bool) (o : Option ℕ) → o ≡ None → cond b o None ≡ None
 chosen_none true o e = e

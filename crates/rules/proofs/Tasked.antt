@@ -1,5 +1,5 @@
 -- Every call of a task changes only what is in reach or free: it leads to nothing else, and colours nothing else.
-use Rattle.std.proofs.Common.{◌≡◌, ℕ, Bool, ◌⊎◌, Some, None, Ok, Err, Option, Result, sym, refl, ap, ◌∙◌, subst, inl, inr, ⊎_elim, arith}
+use Rattle.std.proofs.Common.{◌≡◌, ℕ, Bool, ◌⊎◌, Some, None, Ok, Err, Option, Result, sym, refl, ap, ◌∙◌, subst, inl, inr, ⊎_elim}
 use Rattle.cells.specs.declared.Colour.{Colour}
 use Rattle.cells.specs.declared.Colour.TheVariants.{Blue}
 use Rattle.cells.specs.Memory.{Cells, at, linked}
@@ -23,7 +23,7 @@ pub offers_own : (s : State) (m : ℕ) (t : Task) → s.tasks m ≡ Some t → O
 offers_own s m t present = record { registers = λ j c q. start (register m j present q); making = λ c b q. inl (start (making m b present q)) }
 
 in_slot_lem : (change : Task → Task) (o : Option Task) (u : Task) → in_slot change o ≡ Some u → (t : Task) × ((o ≡ Some t) × (change t ≡ u))
-in_slot_lem change None u e = let z : ◌≡◌ {A = ℕ} 0 1 = cc in absurd (omega arith)
+in_slot_lem change None u e = cc
 in_slot_lem change (Some t) u e = let same : change t ≡ u = cc in (t, (refl, same))
 
 module _ (s s' : State) (m : ℕ) (same : s'.directory ≡ s.directory) where

@@ -1,43 +1,34 @@
 -- Each of the sixteen calls of tasks, by its rule, changes only what is in reach or free.
-use Rattle.std.proofs.Common.{◌≡◌, ℕ, ◌<◌, Bool, true, false, cond, ltb, List, [], length, Some, None, Ok, Err, Option, Result, sym, refl, ap, ◌∙◌, subst, ⊎_elim, arith}
+use Rattle.std.proofs.Common.{◌≡◌, ℕ, ◌<◌, ltb, List, [], length, Some, None, Option, sym, refl, ap, ◌∙◌, subst, ⊎_elim}
 use Rattle.std.proofs.lemmas.Bool.{cond_both, ltb-true}
 use Rattle.cells.specs.Memory.{at}
 use Rattle.rules.specs.declared.Status.TheVariants.{Sync2}
-use Rattle.rules.specs.declared.Refusal.{Refusal}
-use Rattle.rules.specs.declared.Refusal.TheVariants.{RegisterEmpty}
 use Rattle.rules.specs.State.{Task, State, Outcome, with_register, with_pool, with_status, in_slot, has_slot, is_register}
-use Rattle.rules.specs.Tasks.{new_task, holds, cell_in, enter, leave, point, move, clear, load, enter_checks, leave_checks, point_checks, move_checks, clear_checks, load_checks}
+use Rattle.rules.specs.Tasks.{new_task, holds, enter, leave, point, move, clear, load, enter_checks, leave_checks, point_checks, move_checks, clear_checks, load_checks}
 use Rattle.rules.specs.Pools.{drawn, reserve, reserve_checks, give_back, give_back_checks}
 use Rattle.rules.specs.Greying.{same_status}
 use Rattle.rules.specs.Handshake.{bit, chosen, launched, launch, launch_checks, registers_in, replying, cooperate, cooperate_checks}
 use Rattle.rules.specs.Reach.{start, along, directory, register, InReach}
 use Rattle.rules.proofs.Slots.{at_cases}
-use Rattle.rules.proofs.Checked.{need_passed, idle_passed, ok_same}
+use Rattle.rules.proofs.Checked.{need_passed, idle_passed, ok_same, cell_is}
 use Rattle.rules.proofs.Painted.{Paints, unpainted, greyed_all_paint}
 use Rattle.rules.proofs.Invariant.{Invariant}
 use Rattle.rules.proofs.Watching.{Tasked}
 use Rattle.rules.proofs.Tasked.{Offers, offers_own, slot_roots, changed_roots, paints, untouched, tasked_by}
+use Rattle.rules.proofs.TaskTurns.{chosen_is}
 
 -- a register that a launched task holds is one of its parent's
 chosen_held : (mask : ℕ) (o : Option Task) (j c : ℕ) → chosen mask o j ≡ Some c → (t : Task) × ((o ≡ Some t) × (t.registers j ≡ Some c))
-chosen_held mask None j c e = let z : ◌≡◌ {A = ℕ} 0 1 = cc in absurd (omega arith)
-chosen_held mask (Some t) j c e = (t, (refl, go (bit mask j) e))
-  where
-    go : (b : Bool) → cond b (t.registers j) None ≡ Some c → t.registers j ≡ Some c
-    go true e = e
-    go false e = let z : ◌≡◌ {A = ℕ} 0 1 = cc in absurd (omega arith)
-
-cell_in_register : (o : Option ℕ) (x : ℕ) → Ok x ≡ cell_in o → o ≡ Some x
-cell_in_register None x e = let f : ◌≡◌ {A = Result ℕ Refusal} (Ok x) (Err RegisterEmpty) = e in let z : ◌≡◌ {A = ℕ} 0 1 = cc in absurd (omega arith)
-cell_in_register (Some y) x e = ap Some (sym (ok_same e))
+chosen_held mask None j c e = cc
+chosen_held mask (Some t) j c e = (t, (refl, chosen_is (bit mask j) (t.registers j) c e))
 
 module _ (s : State) (I : Invariant s) where
   pub enter_tasked : (p : ℕ) → Tasked s (enter p s).after
   enter_tasked p = tasked_by s I (enter_checks s.directory s.tasks p) _ (λ x _.
       paints s I _ (slot_roots s _ p refl (Some (new_task s.collector.status)) refl
       (λ u e. let same : new_task s.collector.status ≡ u = cc in subst (Offers s) same (record {
-        registers = λ j c q. let z : ◌≡◌ {A = ℕ} 0 1 = cc in absurd (omega arith);
-        making = λ c b q. let z : ◌≡◌ {A = ℕ} 0 1 = cc in absurd (omega arith);
+        registers = λ j c q. cc;
+        making = λ c b q. cc;
       }))) (unpainted _ s.cells) (refl, refl, refl))
 
   pub launch_tasked : (m p mask : ℕ) → Tasked s (launch m p mask s).after
@@ -46,12 +37,12 @@ module _ (s : State) (I : Invariant s) where
       paints s I _ (slot_roots s _ p refl (Some new) refl
       (λ u e. let same : launched s.collector.status mask (s.tasks m) ≡ u = cc in subst (Offers s) same (record {
         registers = λ j c q. let held = chosen_held mask (s.tasks m) j c q in start (register m j held.1.0 held.1.1);
-        making = λ c b q. let z : ◌≡◌ {A = ℕ} 0 1 = cc in absurd (omega arith);
+        making = λ c b q. cc;
       }))) (unpainted _ s.cells) (refl, refl, refl))
 
   pub leave_tasked : (m : ℕ) → Tasked s (leave m s).after
   leave_tasked m = tasked_by s I (leave_checks s.directory s.tasks m) _ (λ x _.
-      paints s I _ (slot_roots s _ m refl None refl (λ u e. let z : ◌≡◌ {A = ℕ} 0 1 = cc in absurd (omega arith))) (unpainted _ s.cells) (refl, refl, refl))
+      paints s I _ (slot_roots s _ m refl None refl (λ u e. cc)) (unpainted _ s.cells) (refl, refl, refl))
 
   -- a register is given what is in reach
   holds_tasked : (m b : ℕ) (v : Option ℕ) → ((c : ℕ) → v ≡ Some c → InReach s c) → Tasked s (holds s m b v).after
@@ -86,7 +77,7 @@ module _ (s : State) (I : Invariant s) where
       let place = need_passed (is_register b) _ _ v slot.1 in
       let found = idle_passed (s.tasks m) _ v place.1 in
       let is = ok_same found.1.2 in
-      holds_tasked m b v (λ c q. let z : ◌≡◌ {A = ℕ} 0 1 = cc in absurd (omega arith)))
+      holds_tasked m b v (λ c q. cc))
 
   pub load_tasked : (m a i b : ℕ) → Tasked s (load m a i b s).after
   load_tasked m a i b = tasked_by s I (load_checks s.directory s.links s.tasks m a i b) _ (λ x e.
@@ -95,7 +86,7 @@ module _ (s : State) (I : Invariant s) where
       let place = need_passed (is_register b) _ _ x first.1 in
       let there = need_passed (ltb i s.links) _ _ x place.1 in
       let found = idle_passed (s.tasks m) _ x there.1 in
-      holds_tasked m b (s.cells.link x i) (λ c q. along (start (register m a found.1.0 (cell_in_register _ x found.1.2))) (i, q)))
+      holds_tasked m b (s.cells.link x i) (λ c q. along (start (register m a found.1.0 (cell_is _ x found.1.2))) (i, q)))
 
   -- a task is given another pool
   pooled_tasked : (m : ℕ) (pool : Task → List ℕ) (s' : State) → s'.tasks ≡ at m (in_slot (λ t. with_pool t (pool t)) (s.tasks m)) s.tasks
@@ -113,7 +104,7 @@ module _ (s : State) (I : Invariant s) where
   give_back_tasked m = tasked_by s I (give_back_checks s.directory s.tasks m) _ (λ k _. pooled_tasked m (λ t. []) _ refl refl refl refl)
 
   registers_in_reach : (m : ℕ) (o : Option Task) → s.tasks m ≡ o → (j c : ℕ) → registers_in o j ≡ Some c → InReach s c
-  registers_in_reach m None p j c q = let z : ◌≡◌ {A = ℕ} 0 1 = cc in absurd (omega arith)
+  registers_in_reach m None p j c q = cc
   registers_in_reach m (Some t) p j c q = start (register m j p q)
 
   pub cooperate_tasked : (m : ℕ) → Tasked s (cooperate m s).after

@@ -1,39 +1,33 @@
 -- The calls that make cells and change links touch only what is in reach or free, and so does every call of a task.
-use Rattle.std.proofs.Common.{◌≡◌, ℕ, zero, suc, ◌<◌, ◌≤◌, Bool, true, false, eqb, ltb, ◌≢◌, List, [], ◌∷◌, Some, None, Ok, Err, Option, Result, sym, refl, ap, ◌∙◌, subst, inl, inr, ⊎_elim, arith}
-use Rattle.std.proofs.lemmas.Bool.{cases_eq, cond-true, eq-eqb, eqb-true}
-use Rattle.cells.specs.declared.Colour.{Colour}
-use Rattle.cells.specs.declared.Colour.TheVariants.{Blue, White, Grey as GreyColour, Black}
+use Rattle.std.proofs.Common.{◌≡◌, ℕ, zero, suc, ◌<◌, ◌≤◌, true, false, eqb, ltb, ◌≢◌, List, [], ◌∷◌, Some, None, Ok, Err, Option, Result, sym, refl, ap, ◌∙◌, subst, inl, inr, ⊎_elim, arith}
+use Rattle.std.proofs.lemmas.Bool.{cases_eq, eqb-true}
+use Rattle.cells.specs.declared.Colour.TheVariants.{Blue, Black}
 use Rattle.cells.specs.Memory.{coloured}
-use Rattle.bags.specs.Holding.{one, copies}
+use Rattle.bags.specs.Holding.{copies}
 use Rattle.rules.specs.declared.Step.{Step}
 use Rattle.rules.specs.declared.Step.TheVariants.{Grey, Warn, Store}
 use Rattle.rules.specs.declared.Work.{Work}
 use Rattle.rules.specs.declared.Work.TheVariants.{Change as Changes, Making}
 use Rattle.rules.specs.declared.Refusal.{Refusal}
-use Rattle.rules.specs.declared.Refusal.TheVariants.{NoTask, RegisterEmpty, WorkUnfinished, NoSuchMaking, NothingToCarryOn, PoolEmpty}
+use Rattle.rules.specs.declared.Refusal.TheVariants.{NoTask, NothingToCarryOn, PoolEmpty}
 use Rattle.rules.specs.declared.Call.{Call}
 use Rattle.rules.specs.declared.Call.TheVariants.{Enter, Launch, Leave, Point, Move, Clear, Load, Reserve, GiveBack, Make, CarryOn, Fill, Finish, Scrap, Change, Cooperate, Collect}
 use Rattle.rules.specs.State.{Task, State, with_register, with_pool, with_work, grown, has_slot, is_register}
 use Rattle.rules.specs.Pools.{pool_in}
-use Rattle.rules.specs.Makings.{newest_of, make_checks, begin_making, make, making_in, of_making, fill_checks, fill, finish_checks, finish, scrap_checks, scrap}
-use Rattle.rules.specs.Changes.{changed_cell, change_checks, first_step, greyed_old, status_in, change, owed_work, owed, carry_on_checks, stepping, carrying, carry_on}
+use Rattle.rules.specs.Makings.{newest_of, make_checks, begin_making, make, fill_checks, fill, finish_checks, finish, scrap_checks, scrap}
+use Rattle.rules.specs.Changes.{change_checks, first_step, greyed_old, status_in, change, owed_work, owed, carry_on_checks, stepping, carrying, carry_on}
 use Rattle.rules.specs.Law.{copies_pooled}
 use Rattle.rules.specs.Reach.{start, along, register, making, InReach}
 use Rattle.rules.specs.Turns.{rule_of}
 use Rattle.rules.proofs.Slots.{at_cases}
-use Rattle.rules.proofs.Checked.{need_passed, idle_passed, ok_same, below_eight}
-use Rattle.rules.proofs.Accounts.{blueness}
+use Rattle.rules.proofs.Checked.{need_passed, idle_passed, ok_same, below_eight, making_passed, changed_is}
+use Rattle.rules.proofs.Accounts.{is_blue}
 use Rattle.rules.proofs.Painted.{Paints, unpainted, painted_in, coloured_paints, greyed_paints}
 use Rattle.rules.proofs.Invariant.{Invariant}
 use Rattle.rules.proofs.Watching.{roots_of, Tasked}
 use Rattle.rules.proofs.Tasked.{Offers, offers_own, changed_roots, paints, sets_link, tasked_by}
 use Rattle.rules.proofs.TaskedCalls.{enter_tasked, launch_tasked, leave_tasked, point_tasked, move_tasked, clear_tasked, load_tasked, reserve_tasked, give_back_tasked, cooperate_tasked}
-
-blue_counted : (x : Colour) → 1 ≤ blueness x → x ≡ Blue
-blue_counted Blue l = refl
-blue_counted White l = absurd (omega arith)
-blue_counted GreyColour l = absurd (omega arith)
-blue_counted Black l = absurd (omega arith)
+use Rattle.rules.proofs.Numbers.{one_at}
 
 -- the copies in one pool are among those in all
 pool_among_pools : (k m : ℕ) (tasks : ℕ → Option Task) (c : ℕ) → m < k → copies (pool_in (tasks m)) c ≤ copies_pooled k tasks c
@@ -44,40 +38,18 @@ pool_among_pools (suc k) m tasks c l = ⊎_elim
     (cases_eq m k)
 
 newest_held : (pool : List ℕ) (x : ℕ) → Ok x ≡ newest_of pool → 1 ≤ copies pool x
-newest_held [] x e = let f : ◌≡◌ {A = Result ℕ Refusal} (Ok x) (Err PoolEmpty) = e in let z : ◌≡◌ {A = ℕ} 0 1 = cc in absurd (omega arith)
-newest_held (y ∷ ys) x e = let here : one y x ≡ 1 = cond-true (eqb x y) 1 0 (eq-eqb x y (ok_same e)) in omega arith
-
--- a making of the task, once the checks that ask for one have passed
-record Makes {A : Type 0} (o : Option Task) (next : Task → ℕ → Bool → Result A Refusal) (f : A) : Type 0 where
-  task : Task
-  cell : ℕ
-  settled : Bool
-  present : o ≡ Some task
-  work : task.work ≡ Some (Making cell settled)
-  rest : Ok f ≡ next task cell settled
-
-making_passed : {A : Type 0} (o : Option Task) (next : Task → ℕ → Bool → Result A Refusal) (f : A) → Ok f ≡ of_making o next → Makes o next f
-making_passed {A} None next f e = let g : ◌≡◌ {A = Result A Refusal} (Ok f) (Err NoTask) = e in let z : ◌≡◌ {A = ℕ} 0 1 = cc in absurd (omega arith)
-making_passed {A} (Some t) next f e = go t.work refl e
-  where
-    go : (w : Option Work) → t.work ≡ w → Ok f ≡ making_in w (next t) → Makes (Some t) next f
-    go None q e = let g : ◌≡◌ {A = Result A Refusal} (Ok f) (Err NoSuchMaking) = e in let z : ◌≡◌ {A = ℕ} 0 1 = cc in absurd (omega arith)
-    go (Some (Changes x i y step)) q e = let g : ◌≡◌ {A = Result A Refusal} (Ok f) (Err WorkUnfinished) = e in let z : ◌≡◌ {A = ℕ} 0 1 = cc in absurd (omega arith)
-    go (Some (Making x b)) q e = record { task = t; cell = x; settled = b; present = refl; work = q; rest = e }
+newest_held [] x e = let f : ◌≡◌ {A = Result ℕ Refusal} (Ok x) (Err PoolEmpty) = e in cc
+newest_held (y ∷ ys) x e = let here = one_at y x (ok_same e) in omega arith
 
 owed_passed : (o : Option Task) (w : Work) → Ok w ≡ owed o → (t : Task) × ((o ≡ Some t) × (t.work ≡ Some w))
-owed_passed None w e = let g : ◌≡◌ {A = Result Work Refusal} (Ok w) (Err NoTask) = e in let z : ◌≡◌ {A = ℕ} 0 1 = cc in absurd (omega arith)
+owed_passed None w e = let g : ◌≡◌ {A = Result Work Refusal} (Ok w) (Err NoTask) = e in cc
 owed_passed (Some t) w e = (t, (refl, go t.work e))
   where
     go : (o : Option Work) → Ok w ≡ owed_work o → o ≡ Some w
-    go None e = let g : ◌≡◌ {A = Result Work Refusal} (Ok w) (Err NothingToCarryOn) = e in let z : ◌≡◌ {A = ℕ} 0 1 = cc in absurd (omega arith)
+    go None e = let g : ◌≡◌ {A = Result Work Refusal} (Ok w) (Err NothingToCarryOn) = e in cc
     go (Some (Changes x i y step)) e = ap Some (sym (ok_same e))
-    go (Some (Making x true)) e = let g : ◌≡◌ {A = Result Work Refusal} (Ok w) (Err NothingToCarryOn) = e in let z : ◌≡◌ {A = ℕ} 0 1 = cc in absurd (omega arith)
+    go (Some (Making x true)) e = let g : ◌≡◌ {A = Result Work Refusal} (Ok w) (Err NothingToCarryOn) = e in cc
     go (Some (Making x false)) e = ap Some (sym (ok_same e))
-
-changed_passed : (a y : Option ℕ) (f : ℕ × Option ℕ) → Ok f ≡ changed_cell a y → a ≡ Some f.0
-changed_passed None y f e = let g : ◌≡◌ {A = Result (ℕ × Option ℕ) Refusal} (Ok f) (Err RegisterEmpty) = e in let z : ◌≡◌ {A = ℕ} 0 1 = cc in absurd (omega arith)
-changed_passed (Some x) y f e = ap (λ (p : ℕ × Option ℕ). Some p.0) (sym (ok_same e))
 
 module _ (s : State) (I : Invariant s) where
   -- the newest cell of a pool is free
@@ -86,7 +58,7 @@ module _ (s : State) (I : Invariant s) where
       let held = newest_held t.pool x e in
       let here = ap (λ o. copies (pool_in o) x) present in
       let among = pool_among_pools 8 m s.tasks x slot in
-      blue_counted _ (omega (arith, I.structure.account x))
+      is_blue _ (omega (arith, I.structure.account x))
 
   make_tasked : (m : ℕ) → Tasked s (make m s).after
   make_tasked m = tasked_by s I (make_checks s.directory s.tasks m) _ (λ x e.
@@ -101,7 +73,7 @@ module _ (s : State) (I : Invariant s) where
             making = λ c b q. let same : x ≡ c = cc in inr (subst (λ k. s.cells.colour k ≡ Blue) same free);
           });
           links = λ y j c n q. ⊎_elim
-              (λ a. let none : ◌≡◌ {A = Option ℕ} None (Some c) = ap (λ (f : ℕ → Option ℕ). f j) a.1 ∙ q in let z : ◌≡◌ {A = ℕ} 0 1 = cc in absurd (omega arith))
+              (λ a. let none : ◌≡◌ {A = Option ℕ} None (Some c) = ap (λ (f : ℕ → Option ℕ). f j) a.1 ∙ q in cc)
               (λ a. inl (
                 ⊎_elim (λ same b. n (same ∙ b)) (λ here. absurd (a.0 here)) (painted.colours y),
                 ap (λ (f : ℕ → ℕ → Option ℕ). f y j) (sym painted.links) ∙ ap (λ (f : ℕ → Option ℕ). f j) a.1 ∙ q,
@@ -121,7 +93,7 @@ module _ (s : State) (I : Invariant s) where
       let place = need_passed (is_register a) _ _ f slot.1 in
       let there = need_passed (ltb i s.links) _ _ f place.1 in
       let found = making_passed (s.tasks m) _ f there.1 in
-      let is = ap (λ (p : ℕ × Option ℕ). p.1) (ok_same found.rest) in
+      let is = ap (λ (p : ℕ × Option ℕ). p.1) (ok_same found.then) in
       sets_link s I _ (λ c r. inl (start (roots_of refl refl c r))) f.0 i f.1 (λ c q. start (register m a found.present (sym is ∙ q))) refl (refl, refl, refl))
 
   finish_tasked : (m x b : ℕ) → Tasked s (finish m x b s).after
@@ -129,29 +101,29 @@ module _ (s : State) (I : Invariant s) where
       let slot = need_passed (has_slot s.directory m) _ _ f e in
       let place = need_passed (is_register b) _ _ f slot.1 in
       let found = making_passed (s.tasks m) _ f place.1 in
-      let same = eqb-true found.cell x (need_passed (eqb found.cell x) _ _ f found.rest).0 in
+      let same = eqb-true found.cell x (need_passed (eqb found.cell x) _ _ f found.then).0 in
       let in_reach = subst (InReach s) same (start (making m found.settled found.present found.work)) in
       paints s I _ (changed_roots s _ m refl (λ t. with_work (with_register t b (Some x)) None) refl (λ t p. record {
         registers = λ j c q. ⊎_elim (λ e. let is : x ≡ c = let k = e.1 in cc in subst (InReach s) is in_reach) (λ e. start (register m j p e.1)) (at_cases b (Some x) t.registers j (Some c) q);
-        making = λ c a q. let z : ◌≡◌ {A = ℕ} 0 1 = cc in absurd (omega arith);
+        making = λ c a q. cc;
       })) (unpainted _ s.cells) (refl, refl, refl))
 
   scrap_tasked : (m x : ℕ) → Tasked s (scrap m x s).after
   scrap_tasked m x = tasked_by s I (scrap_checks s.directory s.tasks m x) _ (λ f e.
       let slot = need_passed (has_slot s.directory m) _ _ f e in
       let found = making_passed (s.tasks m) _ f slot.1 in
-      let same = eqb-true found.cell x (need_passed (eqb found.cell x) _ _ f found.rest).0 in
+      let same = eqb-true found.cell x (need_passed (eqb found.cell x) _ _ f found.then).0 in
       let in_reach = subst (InReach s) same (start (making m found.settled found.present found.work)) in
       paints s I _ (changed_roots s _ m refl (λ t. with_work (with_pool t (grown t.pool x)) None) refl (λ t p. record {
         registers = (offers_own s m t p).registers;
-        making = λ c a q. let z : ◌≡◌ {A = ℕ} 0 1 = cc in absurd (omega arith);
+        making = λ c a q. cc;
       })) (painted_in (InReach s) (λ c q. subst (InReach s) (sym q) in_reach) (coloured_paints s.cells x Blue)) (refl, refl, refl))
 
   -- a task with a change to carry on
   change_offers : (m : ℕ) (t : Task) → s.tasks m ≡ Some t → (x i : ℕ) (y : Option ℕ) (step : Step) → Offers s (with_work t (Some (Changes x i y step)))
   change_offers m t p x i y step = record {
     registers = (offers_own s m t p).registers;
-    making = λ c b q. let z : ◌≡◌ {A = ℕ} 0 1 = cc in absurd (omega arith);
+    making = λ c b q. cc;
   }
 
   change_tasked : (m a i b : ℕ) → Tasked s (change m a i b s).after
@@ -161,7 +133,7 @@ module _ (s : State) (I : Invariant s) where
       let place = need_passed (is_register b) _ _ f first.1 in
       let there = need_passed (ltb i s.links) _ _ f place.1 in
       let found = idle_passed (s.tasks m) _ f there.1 in
-      let held = changed_passed _ _ f found.1.2 in
+      let held = (changed_is _ _ f found.1.2).0 in
       let step = first_step (status_in (s.tasks m)) s.cells s.collector.swept (s.cells.link f.0 i) in
       paints s I _ (changed_roots s _ m refl (λ t. with_work t (Some (Changes f.0 i f.1 step))) refl (λ t p. change_offers m t p f.0 i f.1 step))
       (old_painted step (s.cells.link f.0 i) (λ c q. along (start (register m a found.1.0 held)) (i, q))) (refl, refl, refl))
@@ -187,7 +159,7 @@ module _ (s : State) (I : Invariant s) where
       steps x i y Store f = sets_link s I (stepping s m x i y Store).after
           (changed_roots s (stepping s m x i y Store).after m refl (λ u. with_work u None) refl (λ u q. record {
             registers = (offers_own s m u q).registers;
-            making = λ c b q. let z : ◌≡◌ {A = ℕ} 0 1 = cc in absurd (omega arith);
+            making = λ c b q. cc;
           }))
           x i y f refl (refl, refl, refl)
 

@@ -8,19 +8,17 @@ use Rattle.rules.specs.Reach.{start, along}
 use Rattle.rules.proofs.Ways.{reached_have}
 use Rattle.rules.proofs.Words.{Shaded, Kept, Used, directory, kept, Pending, Traced, TracedRoot, pending, by_hand, Marked, cached, grey_in_mark, in_directory, ahead, at_scan, dirty, ahead_of, Holding}
 use Rattle.rules.proofs.Invariant.{Invariant}
+use Rattle.std.proofs.lemmas.Option.{same_Some}
 
-hand_same : {a b : Hand} → ◌≡◌ {A = Option Hand} (Some a) (Some b) → a ≡ b
-hand_same e = cc
+pub no_hand : {co : Collector} {x i : ℕ} → co.hand ≡ None → ¬ (Holding co x i)
+no_hand e (ahead_of q l) = cc
 
 -- whether the hand has link i of x still to follow
 pub in_hand_or_not : (co : Collector) (x i : ℕ) → Holding co x i ⊎ (¬ (Holding co x i))
 in_hand_or_not co x i = by_hand co.hand refl
   where
     by_hand : (o : Option Hand) → co.hand ≡ o → Holding co x i ⊎ (¬ (Holding co x i))
-    by_hand None e = inr empty
-      where
-        empty : ¬ (Holding co x i)
-        empty (ahead_of q l) = let z : ◌≡◌ {A = ℕ} 0 1 = cc in omega arith
+    by_hand None e = inr (λ a. no_hand e a)
     by_hand (Some h) e = ⊎_elim
         (λ (c : h.cell ≡ x). ⊎_elim
         (λ (l : i < h.link). inr (λ a. not_before l a))
@@ -30,10 +28,10 @@ in_hand_or_not co x i = by_hand co.hand refl
         (cases_eq h.cell x)
       where
         not_before : i < h.link → ¬ (Holding co x i)
-        not_before l (ahead_of q m) = let same = ap (λ (y : Hand). y.link) (hand_same (sym e ∙ q)) in omega arith
+        not_before l (ahead_of q m) = let same = ap (λ (y : Hand). y.link) (same_Some _ _ (sym e ∙ q)) in omega arith
 
         not_other : (h.cell ≡ x → ⊥) → ¬ (Holding co x i)
-        not_other n (ahead_of q m) = n (ap (λ (y : Hand). y.cell) (hand_same (sym e ∙ q)))
+        not_other n (ahead_of q m) = n (ap (λ (y : Hand). y.cell) (same_Some _ _ (sym e ∙ q)))
 
 module _ (s : State) (I : Invariant s) where
   pub kept_used : {c : ℕ} → Kept s c → Used s c

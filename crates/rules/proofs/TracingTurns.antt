@@ -16,10 +16,9 @@ use Rattle.rules.proofs.Invariant.{Invariant}
 use Rattle.rules.proofs.Marking.{WorksIn}
 use Rattle.rules.proofs.GoingOn.{going, take_kept}
 use Rattle.rules.proofs.Blackened.{nothing, blackened_by_rule, blackened_shaded, blackened_is_shaded}
-use Rattle.rules.proofs.Blackening.{blackening_kept, scanned_same}
-
-some_same : {a b : Hand} → ◌≡◌ {A = Option Hand} (Some a) (Some b) → a ≡ b
-some_same e = cc
+use Rattle.rules.proofs.Blackening.{blackening_kept}
+use Rattle.std.proofs.lemmas.Option.{same_Some}
+use Rattle.rules.proofs.Touched.{no_hand}
 
 -- with a cell in hand, what its next link names is blackened
 module _ (s : State) (I : Invariant s) (was : WorksIn s.collector.stage) (h : Hand) (held : s.collector.hand ≡ Some h) where
@@ -48,27 +47,27 @@ module _ (s : State) (I : Invariant s) (was : WorksIn s.collector.stage) (h : Ha
   -- a link that leaves the hand is the one that was followed
   left_named : (x i c : ℕ) → InHand s x i → s.cells.link x i ≡ Some c → (target ≡ Some c) ⊎ InHand (with_hand s (next_hand s.links h.cell h.link)) x i
   left_named x i c (ahead_of {j} e l) names =
-      let same : h ≡ record { cell = x; link = j } = some_same (sym held ∙ e) in
+      let same : h ≡ record { cell = x; link = j } = same_Some _ _ (sym held ∙ e) in
       let cell : h.cell ≡ x = ap (λ (y : Hand). y.cell) same in
       let link : h.link ≡ j = ap (λ (y : Hand). y.link) same in
       ⊎_elim
       (λ (q : h.link ≡ i). inl (ap (λ y. s.cells.link y h.link) cell ∙ ap (s.cells.link x) q ∙ names))
       (λ (q : h.link ≡ i → ⊥). ⊎_elim
       (λ (m : h.link + 1 < s.links). inr (later_held (sym cell) m (omega arith)))
-      (λ (m : s.links ≤ h.link + 1). let none = I.structure.memory.no_link x i (inr (omega arith)) in let z : ◌≡◌ {A = ℕ} 0 1 = cc in absurd (omega arith))
+      (λ (m : s.links ≤ h.link + 1). let none = I.structure.memory.no_link x i (inr (omega arith)) in cc)
       (cases_lt (h.link + 1) s.links))
       (cases_eq h.link i)
 
   next_hand_kept : (g : Hand) → next_hand s.links h.cell h.link ≡ Some g → Kept s g.cell × (g.link < s.links)
   next_hand_kept g e = ⊎_elim
       (λ (l : h.link + 1 < s.links).
-      let same : record { cell = h.cell; link = h.link + 1 } ≡ g = some_same (sym (more_links l) ∙ e) in
+      let same : record { cell = h.cell; link = h.link + 1 } ≡ g = same_Some _ _ (sym (more_links l) ∙ e) in
       subst (λ (y : Hand). Kept s y.cell × (y.link < s.links)) same (hand_cell.0, l))
-      (λ (l : s.links ≤ h.link + 1). let none = no_more_links l in let z : ◌≡◌ {A = ℕ} 0 1 = cc in absurd (omega arith))
+      (λ (l : s.links ≤ h.link + 1). let none = no_more_links l in cc)
       (cases_lt (h.link + 1) s.links)
 
   busy : Busy s
-  busy = in_hand (λ e. let z : ◌≡◌ {A = ℕ} 0 1 = cc in omega arith)
+  busy = in_hand (λ e. cc)
 
   pub followed_kept : Invariant (with_hand (blacken_if s target) (next_hand s.links h.cell h.link))
   followed_kept = blackened_by_rule (λ t. Invariant (with_hand t (next_hand s.links h.cell h.link))) s target (λ v e. (I.safe v (named_used v e)).0)
@@ -94,12 +93,9 @@ module _ (s : State) (I : Invariant s) (was : WorksIn s.collector.stage) (h : Ha
 
 -- while there is nothing to trace
 module _ (s : State) (I : Invariant s) (free-hand : s.collector.hand ≡ None) (empty : has_member s.cache ≡ false) where
-  pub idle_hand : {x j : ℕ} → ¬ (InHand s x j)
-  idle_hand (ahead_of e l) = let z : ◌≡◌ {A = ℕ} 0 1 = cc in omega arith
-
   pub no_members : length s.cache.members ≡ 0
   no_members = ⊎_elim
-      (λ (l : 0 < length s.cache.members). let t = lt-ltb 0 (length s.cache.members) l in let z : ◌≡◌ {A = ℕ} 0 1 = cc in absurd (omega arith))
+      (λ (l : 0 < length s.cache.members). let t = lt-ltb 0 (length s.cache.members) l in cc)
       (λ (l : length s.cache.members ≤ 0). omega arith)
       (cases_lt 0 (length s.cache.members))
 
@@ -114,13 +110,13 @@ module _ (s : State) (I : Invariant s) (free-hand : s.collector.hand ≡ None) (
         was = inl e;
         used = in_directory;
         marked = λ half c q. (I.second_half half).directory c (near_cell c q);
-        hand_left = λ x j c a q. absurd (idle_hand a);
-        hand_kept = λ h q. let z : ◌≡◌ {A = ℕ} 0 1 = cc in absurd (omega arith);
+        hand_left = λ x j c a q. absurd (no_hand free-hand a);
+        hand_kept = λ h q. cc;
         next_left = λ m c l d. ⊎_elim (λ (q : s.collector.next ≡ c). inl (ap Some q)) (λ (n : s.collector.next ≡ c → ⊥). inr (omega arith)) (cases_eq s.collector.next c);
         next_passed = λ m c l d. ⊎_elim (λ (q : c < s.collector.next). inl q) (λ (q : s.collector.next ≤ c). inr (ap Some (let same : s.collector.next ≡ c = omega arith in same))) (cases_lt c s.collector.next);
         looked_left = λ m c p q l. inr l;
-        looks = λ m u k q. let z : ◌≡◌ {A = ℕ} 0 1 = cc in absurd (omega arith);
-        traces_on = λ m c p u. let z : ◌≡◌ {A = ℕ} 0 1 = cc in absurd (omega arith);
+        looks = λ m u k q. cc;
+        traces_on = λ m c p u. cc;
       }))
     where
       near_cell : (c : ℕ) → Some s.collector.next ≡ Some c → c < s.directory
@@ -137,7 +133,7 @@ module _ (s : State) (I : Invariant s) (free-hand : s.collector.hand ≡ None) (
         let at = I.control.places.scan e in
         let async : t.status ≡ Async = ⊎_elim (λ (r : t.status ≡ s.collector.status). r ∙ at.0) (λ (r : t.status ≡ s.collector.phase). r ∙ at.1) (I.control.statuses m t p) in
         let black = I.new_cells.in_scan m k a t p q async e in
-        let z : ◌≡◌ {A = ℕ} 0 1 = cc in omega arith
+        cc
 
     grey_looked : s.cells.colour k ≡ Grey → Invariant (with_looked (blacken s k) true)
     grey_looked g = blackened_by_rule (λ t. Invariant (with_looked t true)) s (Some k) (λ v q. let same : k ≡ v = cc in subst (λ x. x < s.cells.size) same inside)
@@ -145,14 +141,14 @@ module _ (s : State) (I : Invariant s) (free-hand : s.collector.hand ≡ None) (
           was = inr e;
           used = λ c q. start (kept (kept_cell c q));
           marked = λ half c q. inl (kept_cell c q);
-          hand_left = λ x j c a q. absurd (idle_hand a);
-          hand_kept = λ h q. let z : ◌≡◌ {A = ℕ} 0 1 = cc in absurd (omega arith);
+          hand_left = λ x j c a q. absurd (no_hand free-hand a);
+          hand_kept = λ h q. cc;
           next_left = λ m c l d. inr l;
           next_passed = λ m c l d. inl l;
-          looked_left = λ m c p q l. inl (ap Some (scanned_same (sym place ∙ p)));
-          looks = λ m u j q. let same : k ≡ j = scanned_same (sym place ∙ q) in
+          looked_left = λ m c p q l. inl (ap Some (same_Some _ _ (sym place ∙ p)));
+          looks = λ m u j q. let same : k ≡ j = same_Some _ _ (sym place ∙ q) in
               (subst (λ x. x < s.cells.size) same inside, refl, (blackened_is_shaded b j (ap Some same), subst (λ x. ¬ (Made s x)) same (grey_not_made g)));
-          traces_on = λ m c p u. inr (ap Some (scanned_same (sym place ∙ p)));
+          traces_on = λ m c p u. inr (ap Some (same_Some _ _ (sym place ∙ p)));
         }))
       where
         kept_cell : (c : ℕ) → Some k ≡ Some c → Kept s c
@@ -165,22 +161,22 @@ module _ (s : State) (I : Invariant s) (free-hand : s.collector.hand ≡ None) (
     other_looked : s.cells.colour k ≢ Grey → Invariant (with_looked s true)
     other_looked n = blackening_kept s I None s.cells.colour s.cache s.collector.dirty nothing s.collector.next true s.collector.hand (record {
       was = inr e;
-      used = λ c q. let z : ◌≡◌ {A = ℕ} 0 1 = cc in absurd (omega arith);
-      marked = λ half c q. let z : ◌≡◌ {A = ℕ} 0 1 = cc in absurd (omega arith);
-      hand_left = λ x j c a q. absurd (idle_hand a);
-      hand_kept = λ h q. let z : ◌≡◌ {A = ℕ} 0 1 = cc in absurd (omega arith);
+      used = λ c q. cc;
+      marked = λ half c q. cc;
+      hand_left = λ x j c a q. absurd (no_hand free-hand a);
+      hand_kept = λ h q. cc;
       next_left = λ m c l d. inr l;
       next_passed = λ m c l d. inl l;
-      looked_left = λ m c p q l. let same : k ≡ c = scanned_same (sym place ∙ p) in absurd (n (ap s.cells.colour same ∙ q));
+      looked_left = λ m c p q l. let same : k ≡ c = same_Some _ _ (sym place ∙ p) in absurd (n (ap s.cells.colour same ∙ q));
       looks = λ m u j q. absurd (still_idle u);
       traces_on = λ m c p u. absurd (still_idle u);
     })
 
     grey_or_not : (x : Colour) → ((x ≡ Grey) × (is_grey x ≡ true)) ⊎ ((x ≢ Grey) × (is_grey x ≡ false))
     grey_or_not Grey = inl (refl, refl)
-    grey_or_not Blue = inr (λ q. let z : ◌≡◌ {A = ℕ} 0 1 = cc in omega arith, refl)
-    grey_or_not White = inr (λ q. let z : ◌≡◌ {A = ℕ} 0 1 = cc in omega arith, refl)
-    grey_or_not Black = inr (λ q. let z : ◌≡◌ {A = ℕ} 0 1 = cc in omega arith, refl)
+    grey_or_not Blue = inr (λ q. cc, refl)
+    grey_or_not White = inr (λ q. cc, refl)
+    grey_or_not Black = inr (λ q. cc, refl)
 
     pub looking_kept : Invariant (looking s k)
     looking_kept = ⊎_elim

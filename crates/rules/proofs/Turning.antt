@@ -1,5 +1,5 @@
 -- Every turn keeps the invariant, and so the law over runs holds.
-use Rattle.std.proofs.Common.{◌≡◌, ℕ, true, false, Some, None, Ok, Err, Option, Result, sym, refl, subst, arith}
+use Rattle.std.proofs.Common.{◌≡◌, ℕ, true, false, Some, None, Ok, Err, Option, Result, sym, refl, subst}
 use Rattle.rules.specs.declared.Work.{Work}
 use Rattle.rules.specs.declared.Work.TheVariants.{Change, Making}
 use Rattle.rules.specs.declared.Refusal.{Refusal}
@@ -26,13 +26,13 @@ carry_on_kept : (s : State) → Invariant s → (m : ℕ) → Invariant (carry_o
 carry_on_kept s I m = kept_by s (carry_on_checks s.directory s.tasks m) _ I (λ w e. with_task_lem (s.tasks m) refl w (need_passed (has_slot s.directory m) _ _ w e).1)
   where
     with_work_lem : (t : Task) → s.tasks m ≡ Some t → (o : Option Work) → t.work ≡ o → (w : Work) → Ok w ≡ owed_work o → Invariant (carrying s m w).after
-    with_work_lem t p None q w e = let f : ◌≡◌ {A = Result Work Refusal} (Ok w) (Err NothingToCarryOn) = e in let z : ◌≡◌ {A = ℕ} 0 1 = cc in absurd (omega arith)
+    with_work_lem t p None q w e = let f : ◌≡◌ {A = Result Work Refusal} (Ok w) (Err NothingToCarryOn) = e in cc
     with_work_lem t p (Some (Change x i y step)) q w e = subst (λ v. Invariant (carrying s m v).after) (sym (ok_same e)) (stepping_kept s I m t p x i y step q)
-    with_work_lem t p (Some (Making x true)) q w e = let f : ◌≡◌ {A = Result Work Refusal} (Ok w) (Err NothingToCarryOn) = e in let z : ◌≡◌ {A = ℕ} 0 1 = cc in absurd (omega arith)
+    with_work_lem t p (Some (Making x true)) q w e = let f : ◌≡◌ {A = Result Work Refusal} (Ok w) (Err NothingToCarryOn) = e in cc
     with_work_lem t p (Some (Making x false)) q w e = subst (λ v. Invariant (carrying s m v).after) (sym (ok_same e)) (settled_kept s I m x t p q)
 
     with_task_lem : (o : Option Task) → s.tasks m ≡ o → (w : Work) → Ok w ≡ owed o → Invariant (carrying s m w).after
-    with_task_lem None p w e = let f : ◌≡◌ {A = Result Work Refusal} (Ok w) (Err NoTask) = e in let z : ◌≡◌ {A = ℕ} 0 1 = cc in absurd (omega arith)
+    with_task_lem None p w e = let f : ◌≡◌ {A = Result Work Refusal} (Ok w) (Err NoTask) = e in cc
     with_task_lem (Some t) p w e = with_work_lem t p t.work refl w e
 
 pub turn_kept : (s : State) → Invariant s → (c : Call) → Invariant (rule_of c s).after

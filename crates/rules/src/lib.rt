@@ -59,14 +59,14 @@ pub struct Collector {
 // What a turn of the collector came to.
 #[derive(Clone, Copy, PartialEq, Eq, Debug)]
 pub enum Turn {
-    // it waits for tasks, and nothing changed
+    // nothing changed
     Waited = 0,
     Worked = 1,
     // it came back to Rest
     Returned = 2,
 }
 
-// What the next carry on of a change does.
+// What the next carry on of a change does. It is kept from turn to turn, so it is data and no closure.
 #[derive(Clone, Copy)]
 pub enum Step {
     // greys the new value
@@ -77,7 +77,8 @@ pub enum Step {
     Store,
 }
 
-// A task's unfinished work.
+// A task's unfinished work, kept from turn to turn. The parts of a change are fields of the case: of a struct of them its one user would take
+// each out at once.
 #[derive(Clone, Copy)]
 pub enum Work {
     // link `link` of `cell` is to hold `value`
@@ -199,7 +200,7 @@ impl From<Refusal> for u16 {
     }
 }
 
-// What the call answers.
+// The number that the rules give for it.
 impl From<Turn> for u16 {
     ghost from_gives = { λ turn number. number ≡ turn_number turn };
 

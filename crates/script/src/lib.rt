@@ -2,12 +2,8 @@
 // five digits, each after exactly one space. A line ends in a line feed, which the last line may lack.
 #![tactic(auto)]
 
-ghost use Rattle.std.specs.Prelude.{◌≡◌, Some};
+ghost use Rattle.std.specs.Prelude.{◌≡◌};
 ghost use Rattle.script.specs.Lines.{refusal_number, request_of};
-ghost use Rattle.std.specs.Fmt.{decimal};
-
-use std::error::Error;
-use std::fmt;
 
 mod reader;
 mod words;
@@ -31,17 +27,6 @@ impl From<LineRefusal> for u16 {
         refusal as u16
     }
 }
-
-/// The number alone, as a reply gives it.
-impl fmt::Display for LineRefusal {
-    ghost output = { λ refusal. Some (decimal (refusal_number refusal)) };
-
-    fn fmt<W: fmt::Write>(&self, f: &mut fmt::Formatter<W>) -> fmt::Result {
-        write!(f, "{}", u16::from(*self))
-    }
-}
-
-impl Error for LineRefusal {}
 
 /// What a line asks for. `move 2 0 7` has the numbers 2, 0, 7 and 0: those that the verb does not take are 0.
 // One array for every verb is plainer: an enum with the numbers in its variants would list the verbs a second time.

@@ -1,11 +1,11 @@
-// The calls of tasks. Each is made by what the symbol memory keeps of its own, on the memory and the bags that it touches. It answers a
-// number, as its rule says, and 0 where the rule names none.
+// The calls of tasks. Each is made by what the symbol memory keeps of its own, on the memory and the bags that it touches. The rules give
+// every call a number for an answer, 0 where they name none, and that is what it answers; a yes or no is a `bool`.
 ghost use Rattle.rules.specs.Changes.{change, carry_on};
 ghost use Rattle.rules.specs.Handshake.{launch, cooperate};
 ghost use Rattle.rules.specs.Pools.{give_back, reserve};
 ghost use Rattle.rules.specs.Tasks.{enter, leave, point, move, clear, load};
 ghost use Rattle.symbols.specs.Views.{Does};
-ghost use Rattle.turns.specs.Answers.{owing};
+ghost use Rattle.turns.specs.YesOrNo.{yes_or_no};
 
 use super::parts::Symbols;
 use bags::Bag;
@@ -85,14 +85,14 @@ impl<'a, 'b, 'c, M: CellMemory, F: Bag, C: Bag> Symbols<'a, 'b, 'c, M, F, C> {
 
     // One more turn of the unfinished work of task m; answers whether a further one is due.
     pub fn carry_on(&mut self, m: usize) -> Result<bool, Refusal>
-        ensures { Does M.CellMemory F.Bag C.Bag (carry_on m) self.old self.new (owing result) }
+        ensures { Does M.CellMemory F.Bag C.Bag (carry_on m) self.old self.new (yes_or_no result) }
     {
         self.control.carry_on(self.memory, m)
     }
 
     // Task m takes the status that the collector asks for; at Sync2 what its registers hold is greyed. Answers whether it replied.
     pub fn cooperate(&mut self, m: usize) -> Result<bool, Refusal>
-        ensures { Does M.CellMemory F.Bag C.Bag (cooperate m) self.old self.new (owing result) }
+        ensures { Does M.CellMemory F.Bag C.Bag (cooperate m) self.old self.new (yes_or_no result) }
     {
         self.control.cooperate(self.memory, m)
     }

@@ -1,4 +1,5 @@
-// Cells that are made: a ticket goes out with make, and comes back with finish or scrap.
+// Cells that are made: a ticket goes out with make, and comes back with finish or scrap. Fill, finish and scrap answer the 0 that the rules
+// give them.
 ghost use Rattle.rules.specs.Makings.{make, fill, finish, scrap};
 ghost use Rattle.symbols.specs.Tickets.{cell_named, SlotNamed, spent, HandsBack};
 ghost use Rattle.symbols.specs.Views.{Does};

@@ -49,6 +49,7 @@ impl<'a, 'b, 'c, M: CellMemory, F: Bag, C: Bag> Symbols<'a, 'b, 'c, M, F, C> {
             self.lay(x, d);
         }
         self.control = Control::new(d);
+        // The rules give this call the answer 0.
         Ok(0)
     }
 

@@ -5,7 +5,7 @@ ghost use Rattle.tasks.specs.Eighths.{below_eight};
 use std::marker::Model;
 
 // The number of a slot or of a register: there are eight of each.
-#[derive(Clone, Copy)]
+#[derive(Clone, Copy, PartialEq, Eq, Debug)]
 pub struct Eighth {
     number: usize,
 }
@@ -27,6 +27,7 @@ impl Eighth {
     pub fn new(number: usize) -> Option<Eighth>
         ensures { result ≡ below_eight number }
     {
+        // Not `then_some`: that makes the value first, and of a larger number there is none.
         if number < 8 {
             Some(Eighth { number })
         } else {

@@ -4,25 +4,22 @@ ghost use Rattle.rules.specs.Makings.{older_of};
 ghost use Rattle.rules.specs.State.{grown};
 ghost use Rattle.tasks.specs.Pools.{newest};
 
+use arrayvec::ArrayVec;
 use std::marker::Model;
 
-// Cells that a task has reserved, at most four: the first `count`, the last added at the end.
+// Cells that a task has reserved, at most four, the last added at the end.
 #[derive(Drop)]
 pub struct Pool {
-    cells: [u16; 4],
-    count: usize,
+    cells: ArrayVec<u16, 4>,
 }
 
 // Clauses see the cells, the last added first.
 impl Model for Pool {
-    ghost use Rattle.std.specs.Prelude.{ℕ, ◌≤◌, List};
-    ghost use Rattle.bags.specs.Stacks.{stacked};
+    ghost use Rattle.std.specs.Prelude.{ℕ, List, reverse};
 
     ghost Value = { List ℕ };
 
-    ghost view = { λ p. stacked p.cells p.count };
-
-    ghost invariant = { λ p. p.count ≤ 4 };
+    ghost view = { λ p. reverse p.cells.items };
 }
 
 impl Pool {
@@ -30,8 +27,7 @@ impl Pool {
         ensures { result ≡ [] }
     {
         Pool {
-            cells: [0; 4],
-            count: 0,
+            cells: ArrayVec::new(),
         }
     }
 
@@ -39,17 +35,14 @@ impl Pool {
         ensures value { result ≡ length self.now }
         ensures few { result ≤ 4 }
     {
-        self.count
+        self.cells.len()
     }
 
     // One cell more, where there is a place.
     pub fn add(&mut self, x: u16)
         ensures { self.new ≡ grown self.old x }
     {
-        if self.count < 4 {
-            self.cells[self.count] = x;
-            self.count += 1;
-        }
+        let _ = self.cells.try_push(x);
     }
 
     // The last added cell, which the pool loses.
@@ -57,17 +50,13 @@ impl Pool {
         ensures answer { result ≡ newest self.old }
         ensures after { self.new ≡ older_of self.old }
     {
-        if self.count == 0 {
-            return None;
-        }
-        self.count -= 1;
-        Some(self.cells[self.count])
+        self.cells.pop()
     }
 
     // The last added cell.
     pub fn newest(&self) -> Option<u16>
         ensures { result ≡ newest self.now }
     {
-        self.cells[..self.count].last().copied()
+        self.cells.as_slice().last().copied()
     }
 }

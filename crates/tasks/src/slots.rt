@@ -17,8 +17,8 @@ pub struct Tasks {
     ghost eight: { length slots ≡ 8 },
 }
 
-// Each change looks its slot up itself: where one function lends the task, or calls a closure with it, the proofs of these do not close
-// by themselves.
+// Each change looks its slot up itself. One function that lends the task, and one that calls a closure with it, were tried: of what the
+// loan or the call leaves, the proofs of these did not close.
 impl Tasks {
     ghost use Rattle.std.specs.Prelude.{◌≡◌, get_or, Some, None, Ok};
     ghost use Rattle.cells.specs.Memory.{at};
@@ -26,6 +26,7 @@ impl Tasks {
     ghost use Rattle.rules.specs.Collecting.{agree_to};
     ghost use Rattle.rules.specs.Handshake.{launched, registers_in};
     ghost use Rattle.rules.specs.Makings.{begin_making};
+    ghost use Rattle.rules.specs.Questions.{tells};
     ghost use Rattle.rules.specs.State.{in_slot, of_idle_task};
     ghost use Rattle.rules.specs.Tasks.{with_held};
     ghost use Rattle.tasks.specs.Masks.{choice};
@@ -48,11 +49,18 @@ impl Tasks {
         self.slots[m.index()].as_ref()
     }
 
+    // The task in slot m, which is to be there.
+    pub fn present(&self, m: Eighth) -> Result<&Task, Refusal>
+        ensures { found result ≡ tells (λ t. t) (tasks_of self.now m) }
+    {
+        self.get(m).ok_or(Refusal::NoTask)
+    }
+
     // The task in slot m, where it has no unfinished work.
     pub fn idle(&self, m: Eighth) -> Result<&Task, Refusal>
         ensures { found result ≡ of_idle_task (tasks_of self.now m) Ok }
     {
-        let task = self.get(m).ok_or(Refusal::NoTask)?;
+        let task = self.present(m)?;
         if task.work.is_some() {
             return Err(Refusal::WorkUnfinished);
         }
@@ -63,7 +71,7 @@ impl Tasks {
     pub fn making(&self, m: Eighth) -> Result<(&Task, u16, bool), Refusal>
         ensures { making_found result ≡ making_of (tasks_of self.now m) }
     {
-        let task = self.get(m).ok_or(Refusal::NoTask)?;
+        let task = self.present(m)?;
         match task.work {
             Some(Work::Making { cell, settled }) => Ok((task, cell, settled)),
             Some(Work::Change { .. }) => Err(Refusal::WorkUnfinished),

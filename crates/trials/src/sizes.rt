@@ -6,7 +6,7 @@ use std::alloc::{AllocError, Global};
 use std::test::Fail;
 use symbols::Symbols;
 
-// The number of the refusal of a set up, or 0 where it is accepted.
+// The number of the refusal of a set up, or 0 where it is accepted: numbers, as the rules have them for both.
 fn set_up(
     heap: Global,
     bytes: usize,

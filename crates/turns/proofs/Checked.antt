@@ -1,27 +1,27 @@
 -- What a check that was passed says.
 use Rattle.std.proofs.Common.{◌≡◌, ℕ, Bool, true, false, length, Some, None, Ok, Err, Option, Result, sym, ap, ◌∙◌, ap₂, refl}
 use Rattle.rules.specs.declared.Refusal.{Refusal}
-use Rattle.rules.specs.declared.Refusal.TheVariants.{WorkUnfinished}
+use Rattle.rules.specs.declared.Refusal.TheVariants.{NoTask}
 use Rattle.rules.specs.declared.Work.{Work}
 use Rattle.rules.specs.declared.Work.TheVariants.{Change, Making}
 use Rattle.rules.specs.State.{Task, has_slot, need, is_idle, of_idle_task}
 use Rattle.rules.specs.Changes.{carry_on_checks}
 use Rattle.rules.specs.Handshake.{cooperate_checks}
+use Rattle.rules.specs.Questions.{tells}
 use Rattle.rules.specs.Pools.{give_back_checks, reserve_checks}
 use Rattle.rules.specs.Makings.{making_in}
 use Rattle.tasks.specs.Parts.{making_of}
+use Rattle.rules.proofs.Checked.{need_passed, idle_passed, ok_same}
 use Rattle.turns.specs.Moves.{reservable_of}
 
 pub told : {A : Type 0} (b : Bool) (e : Refusal) (x y : A) → Ok y ≡ need b e (Ok x) → (b ≡ true) × (y ≡ x)
-told true e x y h = search
-told false e x y h = search
-
-of_work : (u t : Task) → Ok t ≡ need (is_idle u.work) WorkUnfinished (Ok u) → (Some u ≡ Some t) × (is_idle t.work ≡ true)
-of_work u t h = let found = told (is_idle u.work) WorkUnfinished u t h in (ap Some (sym found.1), ap (λ v. is_idle v.work) found.1 ∙ found.0)
+told b e x y h = let found = need_passed b e (Ok x) y h in (found.0, ok_same found.1)
 
 pub idle : (o : Option Task) (t : Task) → Ok t ≡ of_idle_task o Ok → (o ≡ Some t) × (is_idle t.work ≡ true)
-idle None t h = search
-idle (Some u) t h = of_work u t h
+idle o t h =
+    let found = idle_passed o Ok t h in
+    let same = ok_same found.1.2 in
+    (found.1.0 ∙ ap Some (sym same), ap (λ v. is_idle v.work) same ∙ found.1.1)
 
 abbrev what : {A : Type 0} → A → Result A Refusal → A
 what d (Ok x) = x
@@ -50,3 +50,7 @@ pool_told d tasks m t slot here idle = rw (slot, here, idle) refl
 
 pub reserve_asked : (d free : ℕ) (tasks : ℕ → Option Task) (m : ℕ) → has_slot d m ≡ true → reservable_of free (tasks m) ≡ reserve_checks d free tasks m
 reserve_asked d free tasks m slot = rw slot refl
+
+pub present : (o : Option Task) (t : Task) → Ok t ≡ tells (λ u. u) o → o ≡ Some t
+present None t h = search
+present (Some u) t h = ap Some (sym (told true NoTask u t h).1)

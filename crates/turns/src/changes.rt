@@ -3,7 +3,7 @@ ghost use Rattle.std.specs.Prelude.{◌≡◌, false};
 ghost use Rattle.rules.specs.declared.Work.TheVariants.{Making};
 ghost use Rattle.rules.specs.Changes.{change, carry_on, carrying, stepping};
 ghost use Rattle.turns.specs.Parts.{OnCells};
-ghost use Rattle.turns.specs.Answers.{one_if, owing};
+ghost use Rattle.turns.specs.YesOrNo.{one_if, yes_or_no};
 
 use super::parts::{Control, link, register};
 use cells::CellMemory;
@@ -46,10 +46,10 @@ impl Control {
 
     // One more turn of the unfinished work of task m; answers whether a further one is due.
     pub fn carry_on<M: CellMemory>(&mut self, memory: &mut M, m: usize) -> Result<bool, Refusal>
-        ensures { OnCells M.CellMemory (carry_on m) memory.old memory.new self.old self.new (owing result) }
+        ensures { OnCells M.CellMemory (carry_on m) memory.old memory.new self.old self.new (yes_or_no result) }
     {
         let m = self.slot(m)?;
-        let task = self.tasks.get(m).ok_or(Refusal::NoTask)?;
+        let task = self.tasks.present(m)?;
         match task.work {
             None | Some(Work::Making { settled: true, .. }) => Err(Refusal::NothingToCarryOn),
             Some(

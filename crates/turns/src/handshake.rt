@@ -3,7 +3,7 @@ ghost use Rattle.std.specs.Prelude.{◌≡◌, Ok};
 ghost use Rattle.rules.specs.Handshake.{launch, cooperate, replying};
 ghost use Rattle.rules.specs.State.{accepted};
 ghost use Rattle.turns.specs.Parts.{OnControl, OnCells};
-ghost use Rattle.turns.specs.Answers.{owing};
+ghost use Rattle.turns.specs.YesOrNo.{yes_or_no};
 
 use super::parts::Control;
 use cells::CellMemory;
@@ -17,7 +17,7 @@ impl Control {
         ensures { OnControl (launch m p mask) self.old self.new result }
     {
         let (m, p) = (self.slot(m)?, self.slot(p)?);
-        let task = self.tasks.get(m).ok_or(Refusal::NoTask)?;
+        let task = self.tasks.present(m)?;
         if self.tasks.get(p).is_some() {
             return Err(Refusal::SlotTaken);
         }
@@ -34,7 +34,7 @@ impl Control {
 
     // Task m takes the status that the collector asks for; at Sync2 what its registers hold is greyed. Answers whether it replied.
     pub fn cooperate<M: CellMemory>(&mut self, memory: &mut M, m: usize) -> Result<bool, Refusal>
-        ensures { OnCells M.CellMemory (cooperate m) memory.old memory.new self.old self.new (owing result) }
+        ensures { OnCells M.CellMemory (cooperate m) memory.old memory.new self.old self.new (yes_or_no result) }
     {
         let m = self.slot(m)?;
         let status = self.tasks.idle(m)?.status;

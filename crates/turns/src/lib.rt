@@ -1,5 +1,6 @@
 // The calls of tasks on the parts of a symbol memory that they touch: the checks of a call, by rising number, and then what it does.
-// Each shows its own checks, also where two calls begin alike. A call answers a number, as its rule says, and 0 where the rule names none.
+// Each shows its own checks, also where two calls begin alike. The rules give every call a number for an answer, 0 where they name none, and
+// that is what it answers; a yes or no is a `bool`.
 #![tactic(auto)]
 
 mod changes;

@@ -1,11 +1,15 @@
 // Cells that are made. A ticket is here the pair of its slot m and its cell x.
+ghost use Rattle.std.specs.Prelude.{◌≡◌};
 ghost use Rattle.rules.specs.Makings.{make, fill, finish, scrap};
+ghost use Rattle.tasks.specs.Parts.{tasks_of};
+ghost use Rattle.turns.specs.Moves.{settled_of};
 ghost use Rattle.turns.specs.Parts.{OnControl, OnCells};
 
 use super::parts::{Control, link, register};
 use cells::{CellMemory, Colour};
 use cellwork::empty_links;
 use rules::Refusal;
+use tasks::Eighth;
 
 impl Control {
     // Begins to make the cell that the pool of task m had last; answers the cell.
@@ -44,11 +48,7 @@ impl Control {
     {
         let m = self.slot(m)?;
         let b = register(b)?;
-        let (_, cell, settled) = self.tasks.making(m)?;
-        if cell != x {
-            return Err(Refusal::NoSuchMaking);
-        }
-        if !settled {
+        if !self.settled(m, x)? {
             return Err(Refusal::NotSettled);
         }
         self.tasks.finish(m, x, b);
@@ -60,12 +60,20 @@ impl Control {
         ensures { OnCells M.CellMemory (scrap m x) memory.old memory.new self.old self.new result }
     {
         let m = self.slot(m)?;
-        let (_, cell, _) = self.tasks.making(m)?;
-        if cell != x {
-            return Err(Refusal::NoSuchMaking);
-        }
+        self.settled(m, x)?;
         self.tasks.scrap(m, x);
         let _ = memory.set_colour(x, Colour::Blue);
         Ok(0)
+    }
+
+    // Whether cell x, which task m is to be making, is settled.
+    fn settled(&self, m: Eighth, x: u16) -> Result<bool, Refusal>
+        ensures { result ≡ settled_of (tasks_of self.now.tasks m) x }
+    {
+        let (_, cell, settled) = self.tasks.making(m)?;
+        if cell != x {
+            return Err(Refusal::NoSuchMaking);
+        }
+        Ok(settled)
     }
 }

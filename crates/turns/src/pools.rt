@@ -1,4 +1,4 @@
-// Cells that go between the free list and the tasks' pools.
+// Cells that go between the free list and the tasks' pools. Opposite ways, so the two loops share nothing.
 ghost use Rattle.std.specs.Prelude.{◌≡◌, ◌≤◌, IfOk};
 ghost use Rattle.rules.specs.Pools.{give_back, reserve};
 ghost use Rattle.tasks.specs.Parts.{tasks_of};

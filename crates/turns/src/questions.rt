@@ -13,7 +13,7 @@ impl Control {
     {
         let m = self.slot(m)?;
         let j = register(j)?;
-        Ok(self.tasks.get(m).ok_or(Refusal::NoTask)?.register(j))
+        Ok(self.tasks.present(m)?.register(j))
     }
 
     // The status of task m.
@@ -21,7 +21,7 @@ impl Control {
         ensures { result ≡ status_told self.now.directory (tasks_of self.now.tasks) m }
     {
         let m = self.slot(m)?;
-        Ok(self.tasks.get(m).ok_or(Refusal::NoTask)?.status)
+        Ok(self.tasks.present(m)?.status)
     }
 
     // How many cells the pool of task m has.
@@ -29,6 +29,6 @@ impl Control {
         ensures { result ≡ pool_told self.now.directory (tasks_of self.now.tasks) m }
     {
         let m = self.slot(m)?;
-        Ok(self.tasks.get(m).ok_or(Refusal::NoTask)?.pool.len())
+        Ok(self.tasks.present(m)?.pool.len())
     }
 }

@@ -4,7 +4,7 @@ use Rattle.rules.specs.State.{Outcome, accepted}
 use Rattle.rules.specs.Collecting.{collect}
 use Rattle.rules.specs.TurnNumbers.{turn_number}
 use Rattle.tasks.specs.Parts.{tasks_of}
-use Rattle.collecting.specs.Gathering.{gathered, scan_on, state_with}
+use Rattle.collecting.specs.Gathering.{gathered, scan_on, state_of_parts}
 use Rattle.collecting.proofs.Untraced.{scan_is_collect}
 use Rattle.collecting.proofs.collect.Goals as goal
 
@@ -15,10 +15,10 @@ returns-in-Scan-None-default-2-clause-turn g c =
     let control = c.args.control.now in
     let marker = c.new-in-Scan-None-default-2.result in
     let lent = c.new-in-Scan-None-default-2.ensures in
-    let at : g.row.M.Denot → g.row.C.Denot → Collector → Outcome = λ memory cache collector. scan_on (state_with (m.means memory) m.links free (g.C.Bag.means cache) control.directory (tasks_of control.tasks) collector) collector.scanned in
+    let at : g.row.M.Denot → g.row.C.Denot → Collector → Outcome = λ memory cache collector. scan_on (state_of_parts (m.means memory) m.links free (g.C.Bag.means cache) control.directory (tasks_of control.tasks) collector) collector.scanned in
     let s = gathered m g.F.Bag g.C.Bag c.args.memory.now c.args.free.now c.args.cache.now control in
     let after = c.scan.new.self in
-    let turn : accepted (turn_number c.scan.result) (state_with (m.means after.memory.now) m.links free (g.C.Bag.means after.cache.now) control.directory (tasks_of control.tasks) after.collector.now) ≡ collect s =
+    let turn : accepted (turn_number c.scan.result) (state_of_parts (m.means after.memory.now) m.links free (g.C.Bag.means after.cache.now) control.directory (tasks_of control.tasks) after.collector.now) ≡ collect s =
     c.scan.ensures.state free control.directory (tasks_of control.tasks)
     ∙ ap (λ x. at x marker.cache.now marker.collector.now) lent.memory ∙ ap (λ x. at c.args.memory.now x marker.collector.now) lent.cache
     ∙ ap (at c.args.memory.now c.args.cache.now) lent.collector

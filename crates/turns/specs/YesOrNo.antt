@@ -5,6 +5,6 @@ use Rattle.rules.specs.declared.Refusal.{Refusal}
 abbrev pub one_if : Bool → Result ℕ Refusal
 one_if b = Ok (cond b 1 0)
 
-abbrev pub owing : Result Bool Refusal → Result ℕ Refusal
-owing (Ok b) = one_if b
-owing (Err e) = Err e
+abbrev pub yes_or_no : Result Bool Refusal → Result ℕ Refusal
+yes_or_no (Ok b) = one_if b
+yes_or_no (Err e) = Err e

@@ -9,6 +9,7 @@ use std::io;
 use std::io::Read;
 use symbols::Symbols;
 
+mod building;
 mod refused;
 mod reply;
 

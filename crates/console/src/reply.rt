@@ -2,6 +2,7 @@
 ghost use Rattle.console.specs.Refusals.{number_of};
 ghost use Rattle.console.specs.Replies.{numbered, Replies};
 
+use super::building::build;
 use super::refused::Refused;
 use bags::Bag;
 use cells::CellMemory;
@@ -19,6 +20,7 @@ pub fn answer<'a, 'b, 'c, M: CellMemory, F: Bag, C: Bag>(
     let [a, b, c, d] = request.numbers;
     let answer = match request.verb {
         Verb::Enter => symbols.enter(usize::from(a))?,
+        Verb::Launch => symbols.launch(usize::from(a), usize::from(b), (c & 255) as u8)?,
         Verb::Leave => symbols.leave(usize::from(a))?,
         Verb::Point => symbols.point(usize::from(a), b, usize::from(c))?,
         Verb::Move => symbols.move_register(usize::from(a), usize::from(b), usize::from(c))?,
@@ -31,6 +33,16 @@ pub fn answer<'a, 'b, 'c, M: CellMemory, F: Bag, C: Bag>(
         )?,
         Verb::Reserve => symbols.reserve(usize::from(a))?,
         Verb::Back => symbols.give_back(usize::from(a))?,
+        Verb::Build => build(symbols, usize::from(a), usize::from(b), usize::from(c))?,
+        Verb::Change => symbols.change(
+            usize::from(a),
+            usize::from(b),
+            usize::from(c),
+            usize::from(d),
+        )?,
+        Verb::Go => u16::from(symbols.carry_on(usize::from(a))?),
+        Verb::Coop => u16::from(symbols.cooperate(usize::from(a))?),
+        Verb::Collect => u16::from(symbols.collect()),
         Verb::Colour => u16::from(u8::from(symbols.colour(a)?)),
     };
     Ok(answer)

@@ -4,12 +4,13 @@ use Rattle.script.specs.declared.LineRefusal.{LineRefusal}
 use Rattle.script.specs.declared.LineRefusal.TheVariants.{UnknownWord, BadNumbers}
 use Rattle.script.specs.declared.Request.{Request}
 use Rattle.script.specs.declared.words.Verb.{Verb}
-use Rattle.script.specs.declared.words.Verb.TheVariants.{Enter, Leave, Point, Move, Clear, Load, Reserve, Back, Colour}
+use Rattle.script.specs.declared.words.Verb.TheVariants.{Enter, Launch, Leave, Point, Move, Clear, Load, Reserve, Back, Build, Change, Go, Coop, Collect, Colour}
 use Rattle.script.specs.Lines.{ended, line_of, line_size, request_of}
 use Rattle.script.specs.Verbs.{text_of, verb_of}
 
 verb_of_its_text : (verb : Verb) → verb_of (text_of verb) ≡ Some verb
 verb_of_its_text Enter = refl
+verb_of_its_text Launch = refl
 verb_of_its_text Leave = refl
 verb_of_its_text Point = refl
 verb_of_its_text Move = refl
@@ -17,6 +18,11 @@ verb_of_its_text Clear = refl
 verb_of_its_text Load = refl
 verb_of_its_text Reserve = refl
 verb_of_its_text Back = refl
+verb_of_its_text Build = refl
+verb_of_its_text Change = refl
+verb_of_its_text Go = refl
+verb_of_its_text Coop = refl
+verb_of_its_text Collect = refl
 verb_of_its_text Colour = refl
 
 abbrev asks : Verb → ℕ → ℕ → ℕ → ℕ → Result Request LineRefusal
@@ -30,6 +36,15 @@ three_numbers = refl
 
 four_numbers : request_of (codes "load 1 2 3 00004") ≡ asks Load 1 2 3 4
 four_numbers = refl
+
+no_numbers : request_of (codes "collect") ≡ asks Collect 0 0 0 0
+no_numbers = refl
+
+widest_mask : request_of (codes "launch 0 1 255") ≡ asks Launch 0 1 255 0
+widest_mask = refl
+
+mask_above_limit : request_of (codes "launch 0 1 256") ≡ Err BadNumbers
+mask_above_limit = refl
 
 no_word : request_of [] ≡ Err UnknownWord
 no_word = refl

@@ -1,11 +1,12 @@
 -- The language of the scripts: a line is a word and then numbers, each after one space.
-use Rattle.std.specs.Prelude.{ℕ, zero, suc, ◌+◌, ◌-◌, ◌*◌, min, Bool, true, false, cond, ◌&&◌, ◌||◌, List, [], ◌∷◌, ◌++◌, length, take, drop, replicate, Some, None, Ok, Err, Option, Result, ◌==◌, nat_le}
+use Rattle.std.specs.Prelude.{ℕ, zero, suc, ◌+◌, ◌-◌, ◌*◌, min, Bool, true, false, cond, ◌&&◌, ◌||◌, List, [], ◌∷◌, ◌++◌, length, take, drop, replicate, Some, None, Ok, Err, Option, Result, ◌==◌, nat_le, slice_index}
 use Rattle.std.specs.Char.{is_ascii_digit}
 use Rattle.std.specs.List.{position_or_len}
 use Rattle.script.specs.declared.LineRefusal.{LineRefusal}
 use Rattle.script.specs.declared.LineRefusal.TheVariants.{UnknownWord, BadNumbers}
 use Rattle.script.specs.declared.Request.{Request}
 use Rattle.script.specs.declared.words.Verb.{Verb}
+use Rattle.script.specs.declared.words.Verb.TheVariants.{Launch}
 use Rattle.script.specs.Verbs.{verb_of, arity_of}
 
 abbrev pub refusal_number : LineRefusal → ℕ
@@ -78,9 +79,14 @@ abbrev pub filled : Option (List ℕ) → Option (List ℕ)
 filled None = None
 filled (Some ns) = Some (ns ++ replicate (4 - length ns) 0)
 
+-- a mask has eight bits; other numbers may be any that a reader reads
+abbrev pub fitting_numbers : Verb → List ℕ → Bool
+fitting_numbers Launch numbers = nat_le (slice_index numbers 2) 255
+fitting_numbers _ numbers = true
+
 abbrev pub asked : Verb → Option (List ℕ) → Result Request LineRefusal
 asked verb None = Err BadNumbers
-asked verb (Some numbers) = Ok (record { verb = verb; numbers = numbers })
+asked verb (Some numbers) = cond (fitting_numbers verb numbers) (Ok (record { verb = verb; numbers = numbers })) (Err BadNumbers)
 
 -- what a line asks for that begins with a verb, if it does
 abbrev pub asked_by : Option Verb → List ℕ → Result Request LineRefusal

@@ -16,7 +16,7 @@ pub use words::Verb;
 pub enum LineRefusal {
     /// The word is none of the verbs.
     UnknownWord = 7,
-    /// A number is missing, too many, malformed or above 65,535.
+    /// A number is missing, too many, malformed or above 65,535, or a mask above 255.
     BadNumbers = 8,
 }
 
@@ -47,6 +47,9 @@ impl<'a> TryFrom<&'a [u8]> for Request {
         let mut reader = Reader::new(line);
         let verb = Verb::try_from(reader.word().text)?;
         let numbers = reader.numbers(verb.arity())?;
+        if !verb.fits(&numbers) {
+            return Err(LineRefusal::BadNumbers);
+        }
         Ok(Request { verb, numbers })
     }
 }

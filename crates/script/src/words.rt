@@ -1,6 +1,7 @@
 // The words that a line may begin with. A new one is a variant with its place in `ALL`, its `text` and its `arity`, and
 // the same in the three tables of specs/Verbs.antt, with a line in proofs/Examples.antt.
 ghost use Rattle.std.specs.Prelude.{◌≡◌};
+ghost use Rattle.script.specs.Lines.{fitting_numbers};
 ghost use Rattle.script.specs.Verbs.{arity_of, text_of, verb_of};
 ghost use Rattle.script.specs.declared.LineRefusal.TheVariants.{UnknownWord};
 ghost use Rattle.std.specs.Option.{ok_or};
@@ -11,6 +12,7 @@ use crate::LineRefusal;
 #[derive(Clone, Copy, PartialEq, Eq, Debug)]
 pub enum Verb {
     Enter,
+    Launch,
     Leave,
     Point,
     Move,
@@ -18,12 +20,18 @@ pub enum Verb {
     Load,
     Reserve,
     Back,
+    Build,
+    Change,
+    Go,
+    Coop,
+    Collect,
     Colour,
 }
 
 impl Verb {
-    const ALL: [Verb; 9] = [
+    const ALL: [Verb; 15] = [
         Verb::Enter,
+        Verb::Launch,
         Verb::Leave,
         Verb::Point,
         Verb::Move,
@@ -31,6 +39,11 @@ impl Verb {
         Verb::Load,
         Verb::Reserve,
         Verb::Back,
+        Verb::Build,
+        Verb::Change,
+        Verb::Go,
+        Verb::Coop,
+        Verb::Collect,
         Verb::Colour,
     ];
 
@@ -46,6 +59,7 @@ impl Verb {
     {
         match self {
             Verb::Enter => b"enter",
+            Verb::Launch => b"launch",
             Verb::Leave => b"leave",
             Verb::Point => b"point",
             Verb::Move => b"move",
@@ -53,6 +67,11 @@ impl Verb {
             Verb::Load => b"load",
             Verb::Reserve => b"reserve",
             Verb::Back => b"back",
+            Verb::Build => b"build",
+            Verb::Change => b"change",
+            Verb::Go => b"go",
+            Verb::Coop => b"coop",
+            Verb::Collect => b"collect",
             Verb::Colour => b"colour",
         }
     }
@@ -62,11 +81,25 @@ impl Verb {
         ensures { result ≡ arity_of self }
     {
         match self {
-            Verb::Enter | Verb::Leave | Verb::Reserve | Verb::Back | Verb::Colour => 1,
+            Verb::Collect => 0,
+            Verb::Enter
+            | Verb::Leave
+            | Verb::Reserve
+            | Verb::Back
+            | Verb::Go
+            | Verb::Coop
+            | Verb::Colour => 1,
             Verb::Clear => 2,
-            Verb::Point | Verb::Move => 3,
-            Verb::Load => 4,
+            Verb::Launch | Verb::Point | Verb::Move | Verb::Build => 3,
+            Verb::Load | Verb::Change => 4,
         }
+    }
+
+    /// Whether the numbers fit the word: a mask has eight bits.
+    pub(crate) fn fits(self, numbers: &[u16; 4]) -> bool
+        ensures { result ≡ fitting_numbers self numbers.now }
+    {
+        self != Verb::Launch || numbers[2] <= 255
     }
 }
 

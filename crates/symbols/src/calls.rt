@@ -1,16 +1,19 @@
 // The calls of tasks. Each is made by what the symbol memory keeps of its own, on the memory and the bags that it touches. The rules give
 // every call a number for an answer, 0 where they name none, and that is what it answers; a yes or no is a `bool`.
 ghost use Rattle.rules.specs.Changes.{change, carry_on};
+ghost use Rattle.rules.specs.Collecting.{collect};
 ghost use Rattle.rules.specs.Handshake.{launch, cooperate};
 ghost use Rattle.rules.specs.Pools.{give_back, reserve};
 ghost use Rattle.rules.specs.Tasks.{enter, leave, point, move, clear, load};
 ghost use Rattle.symbols.specs.Views.{Does};
+ghost use Rattle.rules.specs.TurnNumbers.{turn_number};
+ghost use Rattle.std.specs.Prelude.{Ok};
 ghost use Rattle.turns.specs.YesOrNo.{yes_or_no};
 
 use super::parts::Symbols;
 use bags::Bag;
 use cells::CellMemory;
-use rules::Refusal;
+use rules::{Refusal, Turn};
 
 impl<'a, 'b, 'c, M: CellMemory, F: Bag, C: Bag> Symbols<'a, 'b, 'c, M, F, C> {
     // Begins a task in slot p.
@@ -95,5 +98,12 @@ impl<'a, 'b, 'c, M: CellMemory, F: Bag, C: Bag> Symbols<'a, 'b, 'c, M, F, C> {
         ensures { Does M.CellMemory F.Bag C.Bag (cooperate m) self.old self.new (yes_or_no result) }
     {
         self.control.cooperate(self.memory, m)
+    }
+
+    // One turn of the collector, which touches at most one cell; before the set up it waits. It is never refused.
+    pub fn collect(&mut self) -> Turn
+        ensures { Does M.CellMemory F.Bag C.Bag collect self.old self.new (Ok (turn_number result)) }
+    {
+        collecting::collect(self.memory, self.free, self.cache, &mut self.control)
     }
 }

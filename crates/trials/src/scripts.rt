@@ -15,6 +15,8 @@ fn well_formed_lines(rt: HostRuntime) {
     assert_eq!(rt; verb(b"load 65535 0 00003 7\nenter"), Some(Verb::Load));
     assert_eq!(rt; verb(b"back 1\n"), Some(Verb::Back));
     assert_eq!(rt; verb(b"colour 12"), Some(Verb::Colour));
+    assert_eq!(rt; verb(b"collect\n"), Some(Verb::Collect));
+    assert_eq!(rt; verb(b"launch 0 1 255"), Some(Verb::Launch));
 }
 
 #[test]
@@ -24,11 +26,6 @@ fn words_that_are_unknown(rt: HostRuntime) {
     assert_eq!(rt; refused(b" enter 0"), Some(LineRefusal::UnknownWord));
     assert_eq!(rt; refused(b"Enter 0"), Some(LineRefusal::UnknownWord));
     assert_eq!(rt; refused(b"enter\r\n"), Some(LineRefusal::UnknownWord));
-    assert_eq!(rt;
-        refused(b"collect\n"),
-        Some(LineRefusal::UnknownWord),
-        "not built yet"
-    );
     assert_eq!(rt; refused(b"\xff\x00"), Some(LineRefusal::UnknownWord));
 }
 
@@ -41,5 +38,7 @@ fn numbers_that_are_malformed(rt: HostRuntime) {
     assert_eq!(rt; refused(b"enter  0"), Some(LineRefusal::BadNumbers));
     assert_eq!(rt; refused(b"enter 0 "), Some(LineRefusal::BadNumbers));
     assert_eq!(rt; refused(b"enter 0\r\n"), Some(LineRefusal::BadNumbers));
+    assert_eq!(rt; refused(b"launch 0 1 256"), Some(LineRefusal::BadNumbers));
+    assert_eq!(rt; refused(b"collect 0"), Some(LineRefusal::BadNumbers));
     assert_eq!(rt; refused(b"enter -1"), Some(LineRefusal::BadNumbers));
 }

@@ -77,3 +77,18 @@ fn a_ring_gives_its_oldest_cell_first(rt: HostRuntime) {
         "the last added went back first"
     );
 }
+
+#[test]
+fn a_second_set_up_begins_anew(rt: HostRuntime) {
+    let mut bytes = [0u8; 5];
+    let mut none = [0u16; 0];
+    let mut memory = Bytes::new(&mut bytes);
+    let mut free = Pile::new(&mut none);
+    let mut cache = Ring::new();
+    let mut symbols = Symbols::over(&mut memory, &mut free, &mut cache);
+    assert_eq!(rt; symbols.set_up(1), Ok(0));
+    assert_eq!(rt; symbols.enter(0), Ok(0));
+    assert_eq!(rt; symbols.enter(0), Err(Refusal::SlotTaken));
+    assert_eq!(rt; symbols.set_up(1), Ok(0));
+    assert_eq!(rt; symbols.enter(0), Ok(0), "no task is left");
+}

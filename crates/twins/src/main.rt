@@ -89,13 +89,9 @@ fn cycle<'a, 'b, 'c, M: CellMemory, F: Bag, C: Bag>(
 
 // How many cells are Blue.
 fn blue<'a, 'b, 'c, M: CellMemory, F: Bag, C: Bag>(symbols: &Symbols<'a, 'b, 'c, M, F, C>) -> u16 {
-    let mut found = 0u16;
-    for cell in 0..symbols.cell_count() {
-        if symbols.colour(cell) == Ok(Colour::Blue) {
-            found = found.wrapping_add(1);
-        }
-    }
-    found
+    (0..symbols.cell_count())
+        .filter(|cell| symbols.colour(*cell) == Ok(Colour::Blue))
+        .count() as u16
 }
 
 // A cell is built, hung on the directory, dropped and won back.

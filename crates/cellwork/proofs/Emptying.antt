@@ -1,9 +1,10 @@
 -- The links of a cell, emptied one after the other.
-use Rattle.std.proofs.Common.{◌≡◌, ℕ, ◌+◌, ◌<◌, ◌≤◌, true, false, cond, ltb, None, Option, ap, ◌∙◌, inl, ⊎_elim, arith}
+use Rattle.std.proofs.Common.{◌≡◌, ℕ, ◌+◌, ◌<◌, ◌≤◌, true, false, cond, ltb, None, Option, ap, ◌∙◌, inl, inr, ⊎_elim, arith}
 use mathlib.Core.Path.{fun_ext}
 use Rattle.std.proofs.lemmas.Bool.Decides.{nat_tests}
-use Rattle.std.proofs.lemmas.Bool.{cases_lt, cond-true, cond-false}
+use Rattle.std.proofs.lemmas.Bool.{cases_lt, cond-true, cond-false, lt-ltb, le-ltb}
 use Rattle.cells.specs.Memory.{Cells, Sound, at, linked, settable}
+use Rattle.rules.specs.Makings.{unlinked}
 use Rattle.rules.proofs.States.{at_here, at_again}
 use Rattle.cellwork.specs.Emptied.{emptied_to}
 
@@ -34,3 +35,9 @@ outside_same L m sound x k ge =
 
 pub one_emptied : (L : ℕ) (m : Cells) → Sound L m → (x k : ℕ) → k < L → linked L (emptied_to m x k) x k None ≡ emptied_to m x (k + 1)
 one_emptied L m sound x k few = ⊎_elim (λ lt. inside_set L m x k lt few) (outside_same L m sound x k) (cases_lt x m.size)
+
+pub all_emptied : (L : ℕ) (m : Cells) → Sound L m → (x k : ℕ) → L ≤ k → emptied_to m x k ≡ unlinked m x
+all_emptied L m sound x k all = ap (with_row m x) (fun_ext (λ i. ⊎_elim
+    (λ (lt : i < k). cond-true (ltb i k) None (m.link x i) (lt-ltb i k lt))
+    (λ (ge : k ≤ i). cond-false (ltb i k) None (m.link x i) (le-ltb i k ge) ∙ sound.no_link x i (inr (omega arith)))
+    (cases_lt i k)))

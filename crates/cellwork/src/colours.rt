@@ -47,7 +47,7 @@ fn grey_all<M: CellMemory>(memory: &mut M, registers: [Option<u16>; 8])
 fn grey_cell<M: CellMemory>(memory: &mut M, x: u16)
     ensures { CellsBecome M.CellMemory (λ cells. greyed cells x) memory.old memory.new }
 {
-    if colour_of(memory, x) == Colour::White {
+    if memory.colour(x) == Ok(Colour::White) {
         let _ = memory.set_colour(x, Colour::Grey);
     }
 }

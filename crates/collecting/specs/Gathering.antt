@@ -9,16 +9,14 @@ use Rattle.bags.specs.declared.Bag.{Ghosts as BagGhosts}
 use Rattle.bags.specs.Holding.{Hold}
 use Rattle.rules.specs.declared.Collector.{Collector}
 use Rattle.rules.specs.State.{Task, State, Outcome}
-use Rattle.turns.specs.Parts.{state_with}
-use Rattle.turns.specs.declared.parts.Control.{Control}
 use Rattle.rules.specs.Collecting.{looking, scan_from, sweep_from, waits, works}
 
 abbrev pub state_of_parts : Cells → ℕ → Hold → Hold → ℕ → (ℕ → Option Task) → Collector → State
 state_of_parts x l f h d tasks k = record { cells = x; links = l; free = f; cache = h; directory = d; tasks = tasks; collector = k }
 
 module _ {M F C : Type 0} (m : MemoryGhosts M) (f : BagGhosts F) (c : BagGhosts C) where
-  abbrev pub gathered : M → F → C → Control → State
-  gathered memory free cache control = state_with control (m.means memory) m.links (f.means free) (c.means cache)
+  abbrev pub gathered : M → F → C → ℕ → (ℕ → Option Task) → Collector → State
+  gathered memory free cache d tasks k = state_of_parts (m.means memory) m.links (f.means free) (c.means cache) d tasks k
 
 -- r' is the loan that r was, and what of it no cell and no member uses is as it was
 pub record Kept {A S : Type 0} (unused : A → S) (r r' : MutBor A) : Type 0 where

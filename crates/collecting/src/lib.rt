@@ -5,15 +5,16 @@ ghost use Rattle.std.specs.Prelude.{◌≡◌};
 ghost use Rattle.rules.specs.Collecting.{collect};
 ghost use Rattle.rules.specs.State.{accepted};
 ghost use Rattle.rules.specs.TurnNumbers.{turn_number};
+ghost use Rattle.tasks.specs.Parts.{tasks_of};
 ghost use Rattle.collecting.specs.Gathering.{gathered, Kept};
 
 use bags::Bag;
 use cells::CellMemory;
 use marking::{Marker, take};
 use phases::{begin_scan, clear, next_phase, phase_is_over, rest};
-use rules::{Stage, Status, Turn};
+use rules::{Collector, Stage, Status, Turn};
 use sweeping::sweep;
-use turns::Control;
+use tasks::Tasks;
 
 mod marking;
 mod phases;
@@ -26,27 +27,28 @@ pub fn collect<M: CellMemory, F: Bag, C: Bag>(
     memory: &mut M,
     free: &mut F,
     cache: &mut C,
-    control: &mut Control,
+    directory: u16,
+    tasks: &Tasks,
+    collector: &mut Collector,
 ) -> Turn
-    ensures turn { accepted (turn_number result) (gathered M.CellMemory F.Bag C.Bag memory.new free.new cache.new control.new) ≡ collect (gathered M.CellMemory F.Bag C.Bag memory.old free.old cache.old control.old) }
+    ensures turn { accepted (turn_number result) (gathered M.CellMemory F.Bag C.Bag memory.new free.new cache.new directory (tasks_of tasks.now) collector.new) ≡ collect (gathered M.CellMemory F.Bag C.Bag memory.old free.old cache.old directory (tasks_of tasks.now) collector.old) }
     ensures memory { Kept M.CellMemory.spare memory.entry memory.exit }
     ensures free { Kept F.Bag.spare free.entry free.exit }
     ensures cache { Kept C.Bag.spare cache.entry cache.exit }
 {
-    if control.directory == 0 {
+    if directory == 0 {
         return Turn::Waited;
     }
-    let collector = &mut control.collector;
     match (collector.stage, collector.hand, collector.status) {
         (Stage::Rest, _, _) => rest(collector),
-        (Stage::Clear, _, asked) if control.tasks.all_agree(asked) => clear(collector),
+        (Stage::Clear, _, asked) if tasks.all_agree(asked) => clear(collector),
         (Stage::Clear, _, _) => return Turn::Waited,
-        (Stage::Mark, _, asked) if phase_is_over(collector.phase, asked, &control.tasks) => {
+        (Stage::Mark, _, asked) if phase_is_over(collector.phase, asked, tasks) => {
             next_phase(collector)
         }
         (Stage::Mark, Some(hand), _) => Marker::new(memory, cache, collector).follow(hand),
         (Stage::Mark, None, _) if cache.count() > 0 => take(cache, collector),
-        (Stage::Mark, None, _) if collector.next < control.directory => {
+        (Stage::Mark, None, _) if collector.next < directory => {
             Marker::new(memory, cache, collector).next_cell()
         }
         (Stage::Mark, None, _) if collector.phase == Status::Async => begin_scan(collector),

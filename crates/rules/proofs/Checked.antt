@@ -6,7 +6,7 @@ use Rattle.rules.specs.declared.Work.{Work}
 use Rattle.rules.specs.declared.Refusal.{Refusal}
 use Rattle.rules.specs.declared.Refusal.TheVariants.{NoTask, NoSuchMaking, WorkUnfinished, RegisterEmpty}
 use Rattle.rules.specs.State.{Task, need, has_slot, is_idle, of_idle_task}
-use Rattle.rules.specs.Pools.{reservable, reserve_checks}
+use Rattle.rules.specs.Pools.{give_back_checks, reservable, reserve_checks}
 use Rattle.rules.specs.declared.Work.TheVariants.{Change, Making}
 use Rattle.rules.specs.Makings.{making_in, of_making}
 use Rattle.rules.specs.Tasks.{cell_in}
@@ -49,6 +49,17 @@ reserve_checked d free tasks m k e =
       some = ltb-true 0 free some.0;
       many = ok_same some.1;
     }
+
+pub record GivesBack (tasks : ℕ → Option Task) (m k : ℕ) : Type 0 where
+  pub task : Task
+  pub present : tasks m ≡ Some task
+  pub many : k ≡ length task.pool
+
+pub give_back_checked : (d : ℕ) (tasks : ℕ → Option Task) (m k : ℕ) → Ok k ≡ give_back_checks d tasks m → GivesBack tasks m k
+give_back_checked d tasks m k e =
+    let slot = need_passed (has_slot d m) _ _ k e in
+    let found = idle_passed (tasks m) _ k slot.1 in
+    record { task = found.0; present = found.1.0; many = ok_same found.1.2 }
 
 pub below_eight : (d m : ℕ) → has_slot d m ≡ true → m < 8
 below_eight d m e = grind (arith, nat_tests)

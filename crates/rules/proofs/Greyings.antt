@@ -56,6 +56,10 @@ module _ {Why : Type 0} {old new : Colour} where
   greys_black (as_before e) b = sym e ∙ b
   greys_black (greys w g y) b = cc
 
+  pub black_stays : Greys Why old new → old ≡ Black → new ≡ Black
+  black_stays (as_before e) b = e ∙ b
+  black_stays (greys w g y) b = cc
+
   pub grey_stays : Greys Why old new → old ≡ Grey → new ≡ Grey
   grey_stays (as_before e) b = e ∙ b
   grey_stays (greys w g y) b = g

@@ -13,3 +13,10 @@ pub reached_have : {root : ℕ → Type 0} {edge : ℕ → ℕ → Type 0} (P : 
     → ((c : ℕ) → root c → P c) → ((x c : ℕ) → edge x c → P x → P c) → {c : ℕ} → From root edge c → P c
 reached_have P roots edges (start {c} r) = roots c r
 reached_have P roots edges (along {x} {c} p e) = edges x c e (reached_have P roots edges p)
+
+-- the same where it helps to know that the edge's source was reached
+pub lead_on : {root root' : ℕ → Type 0} {edge edge' : ℕ → ℕ → Type 0}
+    → ((c : ℕ) → root c → From root' edge' c) → ((x c : ℕ) → From root edge x → edge x c → From root' edge' x → From root' edge' c)
+    → {c : ℕ} → From root edge c → From root' edge' c
+lead_on roots edges (start {c} r) = roots c r
+lead_on roots edges (along {x} {c} p e) = edges x c p e (lead_on roots edges p)

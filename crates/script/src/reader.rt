@@ -72,7 +72,7 @@ impl<'a> Reader<'a> {
         ensures moved { Moved (line_size (rest self.old)) self.old self.new }
     {
         let line = self.run(b'\n');
-        if !self.at_end() {
+        if self.place < self.text.len() {
             self.place += 1;
         }
         line

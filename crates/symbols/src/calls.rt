@@ -104,6 +104,13 @@ impl<'a, 'b, 'c, M: CellMemory, F: Bag, C: Bag> Symbols<'a, 'b, 'c, M, F, C> {
     pub fn collect(&mut self) -> Turn
         ensures { Does M.CellMemory F.Bag C.Bag collect self.old self.new (Ok (turn_number result)) }
     {
-        collecting::collect(self.memory, self.free, self.cache, &mut self.control)
+        collecting::collect(
+            self.memory,
+            self.free,
+            self.cache,
+            self.control.directory,
+            &self.control.tasks,
+            &mut self.control.collector,
+        )
     }
 }

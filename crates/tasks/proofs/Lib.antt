@@ -1,3 +1,5 @@
 pub mod Agreeing
 pub mod Made
 pub mod Masking
+pub mod PoolLaws
+pub mod Writing

@@ -6,12 +6,12 @@ use Rattle.rules.specs.declared.Status.{Status}
 use Rattle.rules.specs.declared.Work.{Work}
 use Rattle.rules.specs.State.{Task, grown, in_slot, with_pool, with_register, with_status, with_work}
 use Rattle.rules.specs.Makings.{of_making, older_of}
-use Rattle.tasks.specs.Pools.{newest}
+use Rattle.tasks.specs.Pools.{newest, pool_of}
 use Rattle.tasks.specs.declared.task.Task.{Task as TaskPart}
 use Rattle.tasks.specs.declared.slots.Tasks.{Tasks}
 
 abbrev pub task_of : TaskPart → Task
-task_of t = record { status = t.status; registers = λ j. slice_index_or t.registers j None; pool = t.pool; work = t.work }
+task_of t = record { status = t.status; registers = λ j. slice_index_or t.registers j None; pool = pool_of t.pool; work = t.work }
 
 abbrev pub slot_of : Option TaskPart → Option Task
 slot_of None = None
@@ -19,6 +19,11 @@ slot_of (Some t) = Some (task_of t)
 
 abbrev pub tasks_of : Tasks → ℕ → Option Task
 tasks_of ts m = slot_of (slice_index_or ts.slots m None)
+
+-- the record that was lent, if any
+abbrev pub lent_slot : Option (Bor TaskPart) → Option TaskPart
+lent_slot None = None
+lent_slot (Some t) = Some t.now
 
 -- the task that was lent, if any
 abbrev pub borrowed_slot : Option (Bor TaskPart) → Option Task

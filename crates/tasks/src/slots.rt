@@ -20,7 +20,7 @@ pub struct Tasks {
 // Each change looks its slot up itself. One function that lends the task, and one that calls a closure with it, were tried: of what the
 // loan or the call leaves, the proofs of these did not close.
 impl Tasks {
-    ghost use Rattle.std.specs.Prelude.{◌≡◌, get_or, Some, None, Ok};
+    ghost use Rattle.std.specs.Prelude.{◌≡◌, get_or, slice_index_or, Some, None, Ok, IfOk};
     ghost use Rattle.cells.specs.Memory.{at};
     ghost use Rattle.rules.specs.Changes.{status_in};
     ghost use Rattle.rules.specs.Collecting.{agree_to};
@@ -30,7 +30,7 @@ impl Tasks {
     ghost use Rattle.rules.specs.State.{in_slot, of_idle_task};
     ghost use Rattle.rules.specs.Tasks.{with_held};
     ghost use Rattle.tasks.specs.Masks.{choice};
-    ghost use Rattle.tasks.specs.Parts.{borrowed_slot, found, making_found, making_of, newest_in, slot_of, tasks_of};
+    ghost use Rattle.tasks.specs.Parts.{borrowed_slot, found, lent_slot, making_found, making_of, newest_in, slot_of, tasks_of};
     ghost use Rattle.tasks.specs.Parts.{with_finished, with_grown, with_older, with_scrapped, with_status_of, with_work_of};
 
     // All slots vacant.
@@ -44,21 +44,24 @@ impl Tasks {
 
     // What stands in slot m.
     pub fn get(&self, m: Eighth) -> Option<&Task>
-        ensures { borrowed_slot result ≡ tasks_of self.now m }
+        ensures value { borrowed_slot result ≡ tasks_of self.now m }
+        ensures stored { lent_slot result ≡ slice_index_or self.now.slots m None }
     {
         self.slots[m.index()].as_ref()
     }
 
     // The task in slot m, which is to be there.
     pub fn present(&self, m: Eighth) -> Result<&Task, Refusal>
-        ensures { found result ≡ tells (λ t. t) (tasks_of self.now m) }
+        ensures value { found result ≡ tells (λ t. t) (tasks_of self.now m) }
+        ensures stored { IfOk result (λ t. slice_index_or self.now.slots m None ≡ Some t.now) }
     {
         self.get(m).ok_or(Refusal::NoTask)
     }
 
     // The task in slot m, where it has no unfinished work.
     pub fn idle(&self, m: Eighth) -> Result<&Task, Refusal>
-        ensures { found result ≡ of_idle_task (tasks_of self.now m) Ok }
+        ensures value { found result ≡ of_idle_task (tasks_of self.now m) Ok }
+        ensures stored { IfOk result (λ t. slice_index_or self.now.slots m None ≡ Some t.now) }
     {
         let task = self.present(m)?;
         if task.work.is_some() {
@@ -69,7 +72,8 @@ impl Tasks {
 
     // The task in slot m that is making a cell, the cell, and whether it is settled.
     pub fn making(&self, m: Eighth) -> Result<(&Task, u16, bool), Refusal>
-        ensures { making_found result ≡ making_of (tasks_of self.now m) }
+        ensures value { making_found result ≡ making_of (tasks_of self.now m) }
+        ensures stored { IfOk result (λ f. slice_index_or self.now.slots m None ≡ Some f.0.now) }
     {
         let task = self.present(m)?;
         match task.work {

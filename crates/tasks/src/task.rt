@@ -5,7 +5,7 @@ use super::eighth::Eighth;
 use super::pool::Pool;
 use rules::{Status, Work};
 
-#[derive(Drop)]
+#[derive(Clone, Copy)]
 pub struct Task {
     pub status: Status,
     pub(crate) registers: [Option<u16>; 8],

@@ -1,17 +1,24 @@
 -- Cells that go from the free list to a pool, one after the other.
-use Rattle.std.proofs.Common.{◌≡◌, ℕ, suc, ◌+◌, ◌<◌, true, List, ◌∷◌, length, Some, sym, ap, ◌∙◌, add-one, arith}
+use Rattle.std.proofs.Common.{◌≡◌, ℕ, suc, ◌+◌, ◌<◌, true, List, ◌∷◌, length, Some, None, Option, sym, refl, ap, ◌∙◌, add-one, arith}
 use Rattle.std.proofs.lemmas.Bool.{cond-true, lt-ltb}
 use Rattle.cells.specs.Memory.{at}
-use Rattle.bags.specs.Holding.{Fair, has_member}
-use Rattle.rules.specs.State.{State, grown, with_pool}
+use Rattle.bags.specs.Holding.{Hold, Fair, has_member}
+use Rattle.rules.specs.State.{Task, State, grown, with_pool}
 use Rattle.rules.specs.Pools.{left, drawn, with_drawn, reserving}
-use Rattle.rules.proofs.States.{at_here, at_again}
+use Rattle.rules.proofs.States.{at_here, at_again, task_as_it_was}
 use Rattle.rules.proofs.Checked.{Reserves}
 use Rattle.rules.proofs.Drawn.{left_count, drawn_count}
 use Rattle.tasks.specs.Parts.{with_grown}
 use Rattle.turns.specs.Moves.{drawing}
 
+drawn_none : (h : Hold) (o : Option Task) → with_drawn 0 h o ≡ o
+drawn_none h None = refl
+drawn_none h (Some t) = refl
+
 module _ (s : State) (m : ℕ) where
+  pub none_drawn : s ≡ reserving s m 0
+  none_drawn = sym (task_as_it_was s m (with_drawn 0 s.free (s.tasks m)) (sym (drawn_none s.free (s.tasks m))))
+
   module _ (wanted : ℕ) (found : Reserves s.directory (length s.free.members) s.tasks m wanted) (fair : Fair s.free.manner) (k : ℕ) (due : k < wanted) where
     pool : List ℕ
     pool = drawn k s.free found.task.pool

@@ -4,13 +4,17 @@ use Rattle.std.proofs.lemmas.List.{take_more, take_all, drop_all}
 use Rattle.bags.specs.Holding.{Hold, put_into}
 use Rattle.rules.specs.State.{Task, State, with_task, with_free}
 use Rattle.rules.specs.Pools.{puts, pool_in, with_pool_of}
-use Rattle.rules.proofs.States.{at_here, at_again}
+use Rattle.rules.proofs.States.{at_here, at_again, task_as_it_was}
 use Rattle.tasks.specs.Parts.{newest_in, with_older}
 use Rattle.turns.specs.Moves.{put_back, returning}
 
 puts_push : (h : Hold) (xs : List ℕ) (x : ℕ) → puts h (xs ++ x ∷ []) ≡ put_into (puts h xs) x
 puts_push h [] x = refl
 puts_push h (y ∷ ys) x = puts_push (put_into h y) ys x
+
+own_pool : (o : Option Task) → with_pool_of (pool_in o) o ≡ o
+own_pool None = refl
+own_pool (Some t) = refl
 
 -- a task whose pool is x and then xs gives x and keeps xs
 newest_of_lem : (o : Option Task) (x : ℕ) (xs ys : List ℕ) → 0 < length ys → ys ≡ pool_in o → newest_in (with_pool_of (x ∷ xs) o) ≡ Some x
@@ -25,6 +29,9 @@ module _ (s : State) (m : ℕ) where
   -- k cells went back
   abbrev pub returned : ℕ → State
   returned k = with_free (with_task s m (with_pool_of (drop k (pool_in (s.tasks m))) (s.tasks m))) (puts s.free (take k (pool_in (s.tasks m))))
+
+  pub none_returned : s ≡ returned 0
+  none_returned = sym (task_as_it_was s m (with_pool_of (pool_in (s.tasks m)) (s.tasks m)) (sym (own_pool (s.tasks m))))
 
   pub one_returned : (k : ℕ) → k < length (pool_in (s.tasks m)) → returning m (returned k) ≡ returned (k + 1)
   one_returned k some =

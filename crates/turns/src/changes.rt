@@ -1,7 +1,8 @@
 // Changes of a link, and the turns that carry a change or a making on.
 ghost use Rattle.std.specs.Prelude.{◌≡◌, false};
 ghost use Rattle.rules.specs.declared.Work.TheVariants.{Making};
-ghost use Rattle.rules.specs.Changes.{change, carry_on, carrying, stepping};
+ghost use Rattle.rules.specs.Changes.{change, carry_on, carrying, owed, stepping};
+ghost use Rattle.tasks.specs.Parts.{tasks_of};
 ghost use Rattle.turns.specs.Parts.{OnCells};
 ghost use Rattle.turns.specs.YesOrNo.{one_if, yes_or_no};
 
@@ -49,23 +50,24 @@ impl Control {
         ensures { OnCells M.CellMemory (carry_on m) memory.old memory.new self.old self.new (yes_or_no result) }
     {
         let m = self.slot(m)?;
-        let task = self.tasks.present(m)?;
-        match task.work {
+        match self.owed(m)? {
+            Work::Making { cell, .. } => Ok(self.settle(memory, m, cell)),
+            Work::Change {
+                cell,
+                link,
+                value,
+                step,
+            } => Ok(self.take_step(memory, m, cell, link, value, step)),
+        }
+    }
+
+    // The unfinished work of task m, if a turn of it is due.
+    fn owed(&self, m: Eighth) -> Result<Work, Refusal>
+        ensures { result ≡ owed (tasks_of self.now.tasks m) }
+    {
+        match self.tasks.present(m)?.work {
             None | Some(Work::Making { settled: true, .. }) => Err(Refusal::NothingToCarryOn),
-            Some(
-                Work::Making {
-                    cell,
-                    settled: false,
-                },
-            ) => Ok(self.settle(memory, m, cell)),
-            Some(
-                Work::Change {
-                    cell,
-                    link,
-                    value,
-                    step,
-                },
-            ) => Ok(self.take_step(memory, m, cell, link, value, step)),
+            Some(work) => Ok(work),
         }
     }
 

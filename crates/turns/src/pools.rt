@@ -13,7 +13,8 @@ use tasks::Eighth;
 impl Control {
     // Fills the pool of task m up to four cells, as far as the free list goes; answers how many came.
     pub fn reserve<F: Bag>(&mut self, free: &mut F, m: usize) -> Result<u16, Refusal>
-        ensures { OnFree F.Bag (reserve m) free.old free.new self.old self.new result }
+        ensures answer { OnFree F.Bag (reserve m) free.old free.new self.old self.new result }
+        ensures few { IfOk result (λ k. k ≤ 4) }
     {
         let m = self.slot(m)?;
         let wanted = self.reservable(m, free.count())?;
@@ -49,7 +50,8 @@ impl Control {
 
     // Puts the cells of the pool of task m back into the free list, newest first; answers how many they were.
     pub fn give_back<F: Bag>(&mut self, free: &mut F, m: usize) -> Result<u16, Refusal>
-        ensures { OnFree F.Bag (give_back m) free.old free.new self.old self.new result }
+        ensures answer { OnFree F.Bag (give_back m) free.old free.new self.old self.new result }
+        ensures few { IfOk result (λ k. k ≤ 4) }
     {
         let m = self.slot(m)?;
         let held = self.tasks.idle(m)?.pool.len();

@@ -12,14 +12,15 @@ pub returns-in-Scan-None-default-2-clause-turn : goal.returns-in-Scan-None-defau
 returns-in-Scan-None-default-2-clause-turn g c =
     let m = g.M.CellMemory in
     let free = g.F.Bag.means c.args.free.now in
-    let control = c.args.control.now in
+    let d = c.args.directory in
+    let tasks = tasks_of c.args.tasks.now in
     let marker = c.new-in-Scan-None-default-2.result in
     let lent = c.new-in-Scan-None-default-2.ensures in
-    let at : g.row.M.Denot → g.row.C.Denot → Collector → Outcome = λ memory cache collector. scan_on (state_of_parts (m.means memory) m.links free (g.C.Bag.means cache) control.directory (tasks_of control.tasks) collector) collector.scanned in
-    let s = gathered m g.F.Bag g.C.Bag c.args.memory.now c.args.free.now c.args.cache.now control in
+    let at : g.row.M.Denot → g.row.C.Denot → Collector → Outcome = λ memory cache collector. scan_on (state_of_parts (m.means memory) m.links free (g.C.Bag.means cache) d tasks collector) collector.scanned in
+    let s = gathered m g.F.Bag g.C.Bag c.args.memory.now c.args.free.now c.args.cache.now d tasks c.args.collector.now in
     let after = c.scan.new.self in
-    let turn : accepted (turn_number c.scan.result) (state_of_parts (m.means after.memory.now) m.links free (g.C.Bag.means after.cache.now) control.directory (tasks_of control.tasks) after.collector.now) ≡ collect s =
-    c.scan.ensures.state free control.directory (tasks_of control.tasks)
+    let turn : accepted (turn_number c.scan.result) (state_of_parts (m.means after.memory.now) m.links free (g.C.Bag.means after.cache.now) d tasks after.collector.now) ≡ collect s =
+    c.scan.ensures.state free d tasks
     ∙ ap (λ x. at x marker.cache.now marker.collector.now) lent.memory ∙ ap (λ x. at c.args.memory.now x marker.collector.now) lent.cache
     ∙ ap (at c.args.memory.now c.args.cache.now) lent.collector
     ∙ scan_is_collect s (λ e. omega arith) c.in-Scan-None-default-2.is-0 c.in-Scan-None-default-2.is-1 (omega arith) (search rules) in

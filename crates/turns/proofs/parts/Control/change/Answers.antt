@@ -20,7 +20,7 @@ returns-in_err-cell g c =
     let link = told (nat_lt c.args.i g.M.CellMemory.links) _ c.args.i c.in_ok-i.i c.in_ok-i.ensures in
     let from = told (is_register c.args.a) _ c.args.a c.in_ok-a.a c.in_ok-a.ensures in
     let to = told (is_register c.args.b) _ c.args.b c.in_ok-b.b c.in_ok-b.ensures in
-    let task = idle (tasks_of k.tasks c.in_ok-m.m) (task_of c.in_ok-task.task.now) c.in_ok-task.ensures in
+    let task = idle (tasks_of k.tasks c.in_ok-m.m) (task_of c.in_ok-task.task.now) c.in_ok-task.ensures.value in
     search rules
 
 pub returns : goal.returns
@@ -30,5 +30,5 @@ returns g c =
     let link = told (nat_lt c.args.i g.M.CellMemory.links) _ c.args.i c.in_ok-i.i c.in_ok-i.ensures in
     let from = told (is_register c.args.a) _ c.args.a c.in_ok-a.a c.in_ok-a.ensures in
     let to = told (is_register c.args.b) _ c.args.b c.in_ok-b.b c.in_ok-b.ensures in
-    let task = idle (tasks_of k.tasks c.in_ok-m.m) (task_of c.in_ok-task.task.now) c.in_ok-task.ensures in
+    let task = idle (tasks_of k.tasks c.in_ok-m.m) (task_of c.in_ok-task.task.now) c.in_ok-task.ensures.value in
     search rules

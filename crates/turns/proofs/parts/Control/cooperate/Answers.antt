@@ -18,7 +18,7 @@ returns g c =
     let m = g.M.CellMemory in
     let slot = told (has_slot k.directory c.args.m) _ c.args.m c.in_ok-m.m c.in_ok-m.ensures in
     let task = c.in_ok-status.field-0.now in
-    let found = idle (tasks_of k.tasks c.in_ok-m.m) (task_of task) c.in_ok-status.ensures in
+    let found = idle (tasks_of k.tasks c.in_ok-m.m) (task_of task) c.in_ok-status.ensures.value in
     record {
       result = λ free cache.
           let s = state_with k (m.means c.args.memory.now) m.links free cache in

@@ -10,5 +10,5 @@ returns g c =
     let slot = told (has_slot k.directory c.args.m) _ c.args.m c.in_ok-m.m c.in_ok-m.ensures in
     let link = told (nat_lt c.args.i g.M.CellMemory.links) _ c.args.i c.in_ok-i.i c.in_ok-i.ensures in
     let from = told (is_register c.args.a) _ c.args.a c.in_ok-a.a c.in_ok-a.ensures in
-    let made = making (tasks_of k.tasks c.in_ok-m.m) (task_of c.in_ok-task.task.now) c.in_ok-task.x c.in_ok-task.field-0-2 c.in_ok-task.ensures in
+    let made = making (tasks_of k.tasks c.in_ok-m.m) (task_of c.in_ok-task.task.now) c.in_ok-task.x c.in_ok-task.field-0-2 c.in_ok-task.ensures.value in
     search rules

@@ -13,7 +13,7 @@ pub loop-k-preserved : goal.loop-k-preserved
 loop-k-preserved g c =
     let k = c.args.self.now in
     let m = c.in_ok-m.m in
-    let found = idle (tasks_of k.tasks m) (task_of c.in_ok-idle.field-0.now) c.in_ok-idle.ensures in
+    let found = idle (tasks_of k.tasks m) (task_of c.in_ok-idle.field-0.now) c.in_ok-idle.ensures.value in
     let size : c.len-held.result ≡ length (pool_in (tasks_of k.tasks m)) = c.len-held.ensures.value ∙ ap (λ o. length (pool_in o)) (sym found.0) in
     record {
       state = λ cells links cache.
@@ -22,14 +22,14 @@ loop-k-preserved g c =
       rest = c.return_one.ensures.rest ∙ c.loop-k.invariant.rest;
     }
 
-pub returns : goal.returns
-returns g c =
+pub returns-clause-answer : goal.returns-clause-answer
+returns-clause-answer g c =
     let k = c.args.self.now in
     let m = c.in_ok-m.m in
     let task = task_of c.in_ok-idle.field-0.now in
     let held = c.len-held.result in
     let slot = told (has_slot k.directory c.args.m) _ c.args.m m c.in_ok-m.ensures in
-    let found = idle (tasks_of k.tasks m) task c.in_ok-idle.ensures in
+    let found = idle (tasks_of k.tasks m) task c.in_ok-idle.ensures.value in
     let here : tasks_of k.tasks c.args.m ≡ Some task = ap (tasks_of k.tasks) (sym slot.1) ∙ found.0 in
     let size : held ≡ length (pool_in (tasks_of k.tasks m)) = c.len-held.ensures.value ∙ ap (λ o. length (pool_in o)) (sym found.0) in
     let end : c.loop-k._k ≡ length (pool_in (tasks_of k.tasks m)) = omega (arith, size) in

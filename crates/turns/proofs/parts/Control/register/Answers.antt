@@ -9,5 +9,5 @@ returns c =
     let k = c.args.self.now in
     let slot = told (has_slot k.directory c.args.m) _ c.args.m c.in_ok-m.m c.in_ok-m.ensures in
     let from = told (is_register c.args.j) _ c.args.j c.in_ok-j.j c.in_ok-j.ensures in
-    let task = present (tasks_of k.tasks c.in_ok-m.m) (task_of c.in_ok-present.field-0.now) c.in_ok-present.ensures in
+    let task = present (tasks_of k.tasks c.in_ok-m.m) (task_of c.in_ok-present.field-0.now) c.in_ok-present.ensures.value in
     search rules

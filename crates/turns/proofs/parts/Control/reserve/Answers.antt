@@ -29,8 +29,8 @@ loop-k-preserved g c =
       rest = c.draw.ensures.rest ∙ c.loop-k.invariant.rest;
     }
 
-pub returns : goal.returns
-returns g c =
+pub returns-clause-answer : goal.returns-clause-answer
+returns-clause-answer g c =
     let k = c.args.self.now in
     let m = c.in_ok-m.m in
     let tasks = tasks_of k.tasks in

@@ -51,7 +51,7 @@ impl Verb {
     fn named(word: &[u8]) -> Option<Verb>
         ensures { result ≡ verb_of word.now }
     {
-        // A loop, since of so many words it takes a seventh of the time that `find` takes.
+        // A loop, since over so many words `find` takes up to seven times as long.
         for verb in Verb::ALL {
             if word == verb.text() {
                 return Some(verb);

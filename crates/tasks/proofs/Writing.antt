@@ -1,5 +1,5 @@
--- A task that is changed in its slot, told as the rules tell it.
-use Rattle.std.proofs.Common.{◌≡◌, ℕ, ◌<◌, List, length, Option, Some, None, slice_index_or, slice_set, sym, ap, ◌∙◌, ⊎_elim, arith}
+-- A register that is written, and a task that is changed in its slot, told as the rules tell them.
+use Rattle.std.proofs.Common.{◌≡◌, ℕ, ◌<◌, List, length, Option, Some, None, slice_index_or, slice_set, sym, ap, ◌∙◌, ⊎_elim, arith, rules}
 use mathlib.Core.Path.{fun_ext}
 use Rattle.std.proofs.lemmas.Bool.{cases_eq, cond-true, cond-false, eq-eqb, ne_eqb}
 use Rattle.std.proofs.lemmas.List.{get_or-set_same, get_or-set_other}
@@ -7,6 +7,10 @@ use Rattle.cells.specs.Memory.{at}
 use Rattle.rules.specs.State.{Task}
 use Rattle.tasks.specs.Parts.{slot_of, task_of}
 use Rattle.tasks.specs.declared.task.Task.{Task as TaskPart}
+
+pub register_written : (row : List (Option ℕ)) (b i : ℕ) (v : Option ℕ) → length row ≡ 8 → i ≡ b → i < 8
+    → (λ j. slice_index_or (slice_set row i v) j None) ≡ at b v (λ j. slice_index_or row j None)
+register_written row b i v eight same below = search rules
 
 -- slot m, whose index is i, has task t, and is changed to what f makes of it
 pub slot_changed : (slots : List (Option TaskPart)) (m i : ℕ) (t : TaskPart) (o : Option TaskPart) (f : Option Task → Option Task)
